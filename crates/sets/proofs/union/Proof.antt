@@ -1,0 +1,13 @@
+-- `sets::union` meets its contract.
+-- Assumes nothing.
+use borrow.Author.Needs.{needs}
+use Rattle.sets.specs.Sets.{union}
+use Rattle.sets.proofs.union.Statement.{statement}
+use Rattle.sets.proofs.union.Tie as tie
+
+returns : tie.Need-returns
+unfolding union
+returns c = search needs
+
+pub union-spec : {M : Type 1} → statement M
+union-spec = tie.close (tie.spec returns)
