@@ -1,0 +1,73 @@
+-- `site::Site::settle` meets its contract.
+-- Assumes nothing.
+use mathlib.Core.Path.{_∙_, sym}
+use borrow.Author.Tests.{eq-eqb, ne-eqb, not-true, not-false}
+use Rattle.site.specs.Leader.{settleOf}
+use borrow.Author.Needs.{needs}
+use Rattle.site.proofs.Site.settle.Statement.{statement}
+use Rattle.site.proofs.Site.settle.Tie as tie
+
+collects-requires : tie.Need-collects-requires
+collects-requires c κs = search needs
+
+refused-requires : tie.Need-refused-requires
+refused-requires c κs = search needs
+
+returns : tie.Need-returns
+unfolding settleOf
+returns c = simp (c .refused .ensures, sym (c .before .before .collects .ensures) ∙ not-true _ (c .before .if1 .taken))
+
+awaited-requires : tie.Need-awaited-requires
+awaited-requires c κs = search needs
+
+refused-requires-2 : tie.Need-refused-requires-2
+refused-requires-2 c κs = search needs
+
+returns-2 : tie.Need-returns-2
+unfolding settleOf
+returns-2 c = simp (c .refused2 .ensures, sym (c .before .before .before .before .collects .ensures) ∙ not-false _ (c .before .before .before .if1 .left), ← c .before .before .awaited .ensures, ne-eqb _ _ (c .before .if2 .taken))
+
+to-all-requires : tie.Need-to-all-requires
+to-all-requires c κs = search needs
+
+in-p-requires : tie.Need-in-p-requires
+in-p-requires c κs = search needs
+
+in-state-requires : tie.Need-in-state-requires
+in-state-requires c κs = search needs
+
+taken-requires : tie.Need-taken-requires
+taken-requires c κs = search needs
+
+returns-3 : tie.Need-returns-3
+unfolding settleOf
+returns-3 c = simp (c .taken .ensures, c .before .in-state .ensures, c .before .before .before .before .to-all .ensures, sym (c .before .before .before .before .before .before .before .before .collects .ensures) ∙ not-false _ (c .before .before .before .before .before .before .before .if1 .left), ← c .before .before .before .before .before .before .awaited .ensures, eq-eqb _ _ (c .before .before .before .before .before .if2 .left), sym (c .before .before .before .in-p .ensures) ∙ c .before .before .if3 .taken)
+
+in-state-requires-2 : tie.Need-in-state-requires-2
+in-state-requires-2 c κs = search needs
+
+taken-requires-2 : tie.Need-taken-requires-2
+taken-requires-2 c κs = search needs
+
+returns-4 : tie.Need-returns-4
+unfolding settleOf
+returns-4 c = simp (c .taken2 .ensures, c .before .in-state2 .ensures, c .before .before .before .before .to-all .ensures, sym (c .before .before .before .before .before .before .before .before .collects .ensures) ∙ not-false _ (c .before .before .before .before .before .before .before .if1 .left), ← c .before .before .before .before .before .before .awaited .ensures, eq-eqb _ _ (c .before .before .before .before .before .if2 .left), sym (c .before .before .before .in-p .ensures) ∙ c .before .before .if3 .left)
+
+pub settle-spec : {M : Type 1} → statement M
+settle-spec =
+    tie.close
+    (tie.spec
+    collects-requires
+    refused-requires
+    returns
+    awaited-requires
+    refused-requires-2
+    returns-2
+    to-all-requires
+    in-p-requires
+    in-state-requires
+    taken-requires
+    returns-3
+    in-state-requires-2
+    taken-requires-2
+    returns-4)

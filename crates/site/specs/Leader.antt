@@ -1,0 +1,89 @@
+-- A leader's rules (01, "Site and messages"): Move-p, Move-w, Commit and Abort at a follower, Ack, Take over, and Conclude of a
+-- leader that gathers acknowledgements. None of them asks which site is site 1: that is the first phase's matter.
+-- Assumes nothing.
+use Prim.Native.Nat.{ℕ}
+use mathlib.Core.Bool.{Bool, true, false, cond, not, _&&_, _||_}
+use lib.Dec.{eqb, ltb}
+use Rattle.sets.specs.Sets.{belowOf, withSite, weightOf, subset}
+use Rattle.site.specs.declared.State.{State}
+use Rattle.site.specs.declared.State.the-variants.{Q, W, P, A, C}
+use Rattle.site.specs.declared.Order.{Order}
+use Rattle.site.specs.declared.Order.the-variants.{To, Over, Conflict}
+use Rattle.site.specs.declared.Site.{Site}
+use Rattle.site.specs.declared.Done.{Done}
+use Rattle.site.specs.Site.{isP, inState, following, withAcked, toAll, collects, awaitedOf, refused, passed, taken}
+
+-- ---- orders, state by state
+
+-- "Move-p: w goes to p; p and c stay; Ack to the sender. In q or a a conflict"
+abbrev pub movePAt : State → Order
+movePAt Q = Conflict
+movePAt W = To P
+movePAt P = To P
+movePAt A = Conflict
+movePAt C = To C
+
+-- "Move-w: q and p go to w; w and a stay; Ack. In c a conflict"
+abbrev pub moveWAt : State → Order
+moveWAt Q = To W
+moveWAt W = To W
+moveWAt P = To W
+moveWAt A = To A
+moveWAt C = Conflict
+
+-- "Commit: p goes to c, c passes it over"; elsewhere a conflict
+abbrev pub commitAt : State → Order
+commitAt Q = Conflict
+commitAt W = Conflict
+commitAt P = To C
+commitAt A = Conflict
+commitAt C = Over
+
+-- "Abort: q and w go to a, a passes it over"; elsewhere a conflict
+abbrev pub abortAt : State → Order
+abortAt Q = To A
+abortAt W = To A
+abortAt P = Conflict
+abortAt A = Over
+abortAt C = Conflict
+
+abbrev pub orderAt : ℕ → State → Order
+orderAt k q = cond (eqb k 4) (movePAt q) (cond (eqb k 5) (moveWAt q) (cond (eqb k 7) (commitAt q) (abortAt q)))
+
+-- ---- an order obeyed
+
+-- the sender becomes the leader followed, also where the order is passed over in its state; a Move is answered by an Ack to the sender
+abbrev pub obeyed : Order → Site → ℕ → ℕ → Done
+obeyed (To q) s k from = cond (eqb k 4 || eqb k 5) (taken (following (inState s q) from) 6 (weightOf from)) (taken (following (inState s q) from) 0 0)
+obeyed Over s k from = passed (following s from)
+obeyed Conflict s k from = refused s 6
+
+-- "from a sender below the leader followed: passed over, no change"
+unfoldable pub obeyOf : Site → ℕ → ℕ → Done
+obeyOf s k from = cond (ltb from (s .leader)) (passed s) (obeyed (orderAt k (s .state)) s k from)
+
+-- "Ack: recorded by a leader in p, or in w if it isn't site 1"; otherwise passed over
+unfoldable pub ackOf : Site → ℕ → Done
+ackOf s from = cond (collects s) (taken (withAcked s (withSite (s .acked) from)) 0 0) (passed s)
+
+-- ---- Take over and Conclude
+
+-- "it leads, acknowledgements cleared. In q it goes to a. Then to all: Abort in a, Commit in c, Move-w in w, Move-p in p"
+abbrev pub overIn : State → Site → Done
+overIn Q s = taken (withAcked (following (inState s A) (s .number)) 0) 8 (toAll s)
+overIn W s = taken (withAcked (following s (s .number)) 0) 5 (toAll s)
+overIn P s = taken (withAcked (following s (s .number)) 0) 4 (toAll s)
+overIn A s = taken (withAcked (following s (s .number)) 0) 8 (toAll s)
+overIn C s = taken (withAcked (following s (s .number)) 0) 7 (toAll s)
+
+-- "Take over, when following a lower site and all lower ones are known stopped"; else ground 5
+unfoldable pub takeOverOf : Site → Done
+takeOverOf s = cond (ltb (s .leader) (s .number) && subset (belowOf (s .number)) (s .known)) (overIn (s .state) s) (refused s 5)
+
+-- a leader that gathers acknowledgements: "when every other site has acknowledged or is known stopped,
+-- w writes Abort and goes to a, p writes Commit and goes to c", both to all; else ground 5
+unfoldable pub settleOf : Site → Done
+settleOf s =
+    cond (collects s && eqb (awaitedOf s) 0)
+    (cond (isP (s .state)) (taken (inState s C) 7 (toAll s)) (taken (inState s A) 8 (toAll s)))
+    (refused s 5)

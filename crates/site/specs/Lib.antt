@@ -1,0 +1,4 @@
+pub mod Site
+pub mod First
+pub mod Leader
+pub mod Step

@@ -1,0 +1,78 @@
+-- The site step (01, "Site and messages"): every step's rule, the grounds 1, 2, 5 and 6 in their order, and what is reported.
+-- Assumes nothing.
+use Prim.Native.Nat.{ℕ}
+use mathlib.Core.Bool.{Bool, true, false, cond, not, _&&_, _||_}
+use lib.Dec.{eqb}
+use Rattle.sets.specs.Sets.{has, withSite, countOf, lowestOf}
+use Rattle.site.specs.declared.Vote.{Vote}
+use Rattle.site.specs.declared.Vote.the-variants.{Yes, No}
+use Rattle.site.specs.declared.Site.{Site}
+use Rattle.site.specs.declared.Step.{Step}
+use Rattle.site.specs.declared.Step.the-variants.{Begin, Start, Deliver, Notice, TakeOver, Conclude}
+use Rattle.site.specs.declared.Outcome.{Outcome}
+use Rattle.site.specs.declared.Outcome.the-variants.{Taken, Passed, Refused}
+use Rattle.site.specs.declared.Done.{Done}
+use Rattle.site.specs.declared.Counts.{Counts}
+use Rattle.site.specs.declared.Answer.{Answer}
+use Rattle.site.specs.Site.{knowing, soundOf, namesOf, polls, awaitedOf, refused, passed, taken}
+use Rattle.site.specs.First.{beginOf, startOf, voteOf, tallyOf}
+use Rattle.site.specs.Leader.{obeyOf, ackOf, takeOverOf, settleOf}
+
+-- "Notice that a site stopped: recorded; passed over if known"
+unfoldable pub noticeOf : Site → ℕ → Done
+noticeOf s o = cond (has (s .known) o) (passed s) (taken (knowing s (withSite (s .known) o)) 0 0)
+
+-- "Conclude, for a leader": site 1 in w by the votes, any other by the acknowledgements
+unfoldable pub concludeOf : Site → Done
+concludeOf s = cond (polls s) (tallyOf s) (settleOf s)
+
+-- a delivered message of kind k that is no Start
+unfoldable pub deliverOf : Site → ℕ → ℕ → Done
+deliverOf s k from =
+    cond (eqb k 2) (voteOf s from Yes)
+    (cond (eqb k 3) (voteOf s from No)
+    (cond (eqb k 6) (ackOf s from) (obeyOf s k from)))
+
+-- each step's own rule
+abbrev pub ruleOf : Site → Step → Done
+ruleOf s (Begin v) = beginOf s v
+ruleOf s (Start from v) = startOf s from v
+ruleOf s (Deliver k from) = deliverOf s k from
+ruleOf s (Notice o) = noticeOf s o
+ruleOf s TakeOver = takeOverOf s
+ruleOf s Conclude = concludeOf s
+
+-- the grounds in their order: 1 a record that is not sound, 2 wrong names; then the rule, with 5 or 6
+unfoldable pub doneOf : Site → Step → Done
+doneOf s t = cond (soundOf s) (cond (namesOf s t) (ruleOf s t) (refused s 2)) (refused s 1)
+
+-- "A step reports the number of messages written, counted in the set of receivers, and the number of sites still awaited",
+-- of the record as it then is; a refusal reports zeros
+abbrev pub counted : Site → ℕ → Counts
+counted s to = record { written = countOf to; awaited = countOf (awaitedOf s) }
+
+abbrev pub countsOf : Outcome → Site → ℕ → Counts
+countsOf Taken s to = counted s to
+countsOf Passed s to = counted s to
+countsOf (Refused g) s to = record { written = 0; awaited = 0 }
+
+-- the kind is 0 where nobody is written to
+abbrev pub kindOf : ℕ → ℕ → ℕ
+kindOf k to = cond (eqb to 0) 0 k
+
+unfoldable pub answered : Done → Answer
+answered d =
+    record {
+      site = d .site;
+      outcome = d .outcome;
+      kind = kindOf (d .kind) (d .to);
+      to = d .to;
+      counts = countsOf (d .outcome) (d .site) (d .to);
+    }
+
+unfoldable pub stepOf : Site → Step → Answer
+stepOf s t = answered (doneOf s t)
+
+-- the lowest site awaited, 0 for none
+unfoldable pub awaitedFirst : Site → ℕ
+awaitedFirst s = lowestOf (awaitedOf s)
