@@ -52,9 +52,13 @@ orderAt k q = cond (eqb k 4) (movePAt q) (cond (eqb k 5) (moveWAt q) (cond (eqb 
 
 -- ---- an order obeyed
 
--- the sender becomes the leader followed, also where the order is passed over in its state; a Move is answered by an Ack to the sender
+-- a Move is answered by an Ack to the sender
+abbrev pub replied : Site → ℕ → ℕ → Done
+replied s k from = cond (eqb k 4 || eqb k 5) (taken s 6 (weightOf from)) (taken s 0 0)
+
+-- the sender becomes the leader followed, also where the order is passed over in its state
 abbrev pub obeyed : Order → Site → ℕ → ℕ → Done
-obeyed (To q) s k from = cond (eqb k 4 || eqb k 5) (taken (following (inState s q) from) 6 (weightOf from)) (taken (following (inState s q) from) 0 0)
+obeyed (To q) s k from = replied (following (inState s q) from) k from
 obeyed Over s k from = passed (following s from)
 obeyed Conflict s k from = refused s 6
 

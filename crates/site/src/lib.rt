@@ -4,7 +4,7 @@
 ghost use mathlib.Core.Path.{_≡_};
 ghost use Rattle.site.specs.Site.{isQ, isW, isP, inState, soundOf, endsOf, toAll, inRun, namesOf, polls, collects, awaitedOf, refused, passed, taken};
 ghost use Rattle.site.specs.First.{beginOf, startOf, voteOf, tallyOf};
-ghost use Rattle.site.specs.Leader.{movePAt, moveWAt, commitAt, abortAt, orderAt, obeyOf, ackOf, takeOverOf, settleOf};
+ghost use Rattle.site.specs.Leader.{movePAt, moveWAt, commitAt, abortAt, orderAt, replied, obeyOf, ackOf, takeOverOf, settleOf};
 ghost use Rattle.site.specs.Step.{noticeOf, concludeOf, deliverOf, doneOf, kindOf, counted, countsOf, answered, stepOf, awaitedFirst};
 
 // The states: first, wait, prepared, abort, commit.
@@ -133,7 +133,7 @@ fn in_p(state: State) -> bool
 }
 
 // Has a message of this kind the right ends?
-pub fn ends(kind: u8, from: u8, to: u8) -> bool
+fn ends(kind: u8, from: u8, to: u8) -> bool
     ensures { λ r. ⌜ r ≡ endsOf kind from to ⌝ }
 {
     match kind {
@@ -259,6 +259,26 @@ impl Site {
         }
     }
 
+    // The step is taken into another state.
+    fn moved(self, state: State, kind: u8, to: u8) -> Done
+        ensures { λ r. ⌜ r ≡ taken (inState self state) kind to ⌝ }
+    {
+        self.in_state(state).taken(kind, to)
+    }
+
+    // An order is taken: a Move is answered by an Ack to its sender.
+    fn replied(self, kind: u8, from: u8) -> Done
+        ensures { λ r. ⌜ r ≡ replied self kind from ⌝ }
+    {
+        if kind == MOVE_P {
+            return self.taken(ACK, sets::weight(from));
+        }
+        if kind == MOVE_W {
+            return self.taken(ACK, sets::weight(from));
+        }
+        self.taken(0, 0)
+    }
+
     // Is the record one that 01 allows?
     pub fn sound(self) -> bool
         ensures { λ r. ⌜ r ≡ soundOf self ⌝ }
@@ -346,7 +366,7 @@ impl Site {
     }
 
     // The sites whose vote or acknowledgement is still awaited.
-    pub fn awaited(self) -> u8
+    fn awaited(self) -> u8
         ensures { λ r. ⌜ r ≡ awaitedOf self ⌝ }
     {
         if self.polls() {
@@ -377,8 +397,8 @@ impl Site {
         }
         let to = self.to_all();
         match vote {
-            Vote::Yes => self.in_state(State::W).taken(START, to),
-            Vote::No => self.in_state(State::A).taken(ABORT, to),
+            Vote::Yes => self.moved(State::W, START, to),
+            Vote::No => self.moved(State::A, ABORT, to),
         }
     }
 
@@ -394,8 +414,8 @@ impl Site {
         }
         let one = sets::weight(1);
         match vote {
-            Vote::Yes => self.in_state(State::W).taken(YES, one),
-            Vote::No => self.in_state(State::A).taken(NO, one),
+            Vote::Yes => self.moved(State::W, YES, one),
+            Vote::No => self.moved(State::A, NO, one),
         }
     }
 
@@ -426,13 +446,13 @@ impl Site {
         let to = self.to_all();
         let yes = self.yes;
         if self.no != 0 {
-            return self.in_state(State::A).taken(ABORT, to);
+            return self.moved(State::A, ABORT, to);
         }
         if !sets::subset(self.known, yes) {
-            return self.in_state(State::A).taken(ABORT, to);
+            return self.moved(State::A, ABORT, to);
         }
         if sets::subset(sets::all_others(self.n, self.number), yes) {
-            return self.in_state(State::P).taken(MOVE_P, to);
+            return self.moved(State::P, MOVE_P, to);
         }
         self.refused(5)
     }
@@ -449,13 +469,7 @@ impl Site {
             Order::To(new) => {
                 let mut next = self.in_state(new);
                 next.leader = from;
-                if kind == MOVE_P {
-                    return next.taken(ACK, sets::weight(from));
-                }
-                if kind == MOVE_W {
-                    return next.taken(ACK, sets::weight(from));
-                }
-                next.taken(0, 0)
+                next.replied(kind, from)
             }
             Order::Over => {
                 let mut next = self;
@@ -514,9 +528,9 @@ impl Site {
         let to = self.to_all();
         let state = self.state;
         if in_p(state) {
-            return self.in_state(State::C).taken(COMMIT, to);
+            return self.moved(State::C, COMMIT, to);
         }
-        self.in_state(State::A).taken(ABORT, to)
+        self.moved(State::A, ABORT, to)
     }
 
     // Conclude, for a leader: the new site, with receivers and refusal.

@@ -30,28 +30,22 @@ to-all-requires c κs = search needs
 enum-told : tie.Need-enum-told
 enum-told c = search needs
 
-in-state-requires : tie.Need-in-state-requires
-in-state-requires c κs = search needs
-
-taken-requires : tie.Need-taken-requires
-taken-requires c κs = search needs
+moved-requires : tie.Need-moved-requires
+moved-requires c κs = search needs
 
 enum-told-2 : tie.Need-enum-told-2
 enum-told-2 c = search needs
 
-in-state-requires-2 : tie.Need-in-state-requires-2
-in-state-requires-2 c κs = search needs
-
-taken-requires-2 : tie.Need-taken-requires-2
-taken-requires-2 c κs = search needs
+moved-requires-2 : tie.Need-moved-requires-2
+moved-requires-2 c κs = search needs
 
 returns-3 : tie.Need-returns-3
 unfolding beginOf
-returns-3 c = simp (c .taken .ensures, c .before .in-state .ensures, c .before .before .before .before .to-all .ensures, c .before .before .enum-told .given .1, eq-eqb _ _ (c .before .before .before .before .before .before .before .if1 .left), sym (c .before .before .before .before .before .before .in-q .ensures) ∙ not-false _ (c .before .before .before .before .before .if2 .left))
+returns-3 c = simp (c .moved .ensures, c .before .before .before .to-all .ensures, c .before .enum-told .given .1, eq-eqb _ _ (c .before .before .before .before .before .before .if1 .left), sym (c .before .before .before .before .before .in-q .ensures) ∙ not-false _ (c .before .before .before .before .if2 .left))
 
 returns-4 : tie.Need-returns-4
 unfolding beginOf
-returns-4 c = simp (c .taken2 .ensures, c .before .in-state2 .ensures, c .before .before .before .before .to-all .ensures, c .before .before .enum-told2 .given .1, eq-eqb _ _ (c .before .before .before .before .before .before .before .if1 .left), sym (c .before .before .before .before .before .before .in-q .ensures) ∙ not-false _ (c .before .before .before .before .before .if2 .left))
+returns-4 c = simp (c .moved2 .ensures, c .before .before .before .to-all .ensures, c .before .enum-told2 .given .1, eq-eqb _ _ (c .before .before .before .before .before .before .if1 .left), sym (c .before .before .before .before .before .in-q .ensures) ∙ not-false _ (c .before .before .before .before .if2 .left))
 
 pub begin-spec : {M : Type 1} → statement M
 begin-spec =
@@ -64,10 +58,8 @@ begin-spec =
     returns-2
     to-all-requires
     enum-told
-    in-state-requires
-    taken-requires
+    moved-requires
     enum-told-2
-    in-state-requires-2
-    taken-requires-2
+    moved-requires-2
     returns-3
     returns-4)

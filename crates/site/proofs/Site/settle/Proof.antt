@@ -33,25 +33,19 @@ to-all-requires c κs = search needs
 in-p-requires : tie.Need-in-p-requires
 in-p-requires c κs = search needs
 
-in-state-requires : tie.Need-in-state-requires
-in-state-requires c κs = search needs
-
-taken-requires : tie.Need-taken-requires
-taken-requires c κs = search needs
+moved-requires : tie.Need-moved-requires
+moved-requires c κs = search needs
 
 returns-3 : tie.Need-returns-3
 unfolding settleOf
-returns-3 c = simp (c .taken .ensures, c .before .in-state .ensures, c .before .before .before .before .to-all .ensures, sym (c .before .before .before .before .before .before .before .before .collects .ensures) ∙ not-false _ (c .before .before .before .before .before .before .before .if1 .left), ← c .before .before .before .before .before .before .awaited .ensures, eq-eqb _ _ (c .before .before .before .before .before .if2 .left), sym (c .before .before .before .in-p .ensures) ∙ c .before .before .if3 .taken)
+returns-3 c = simp (c .moved .ensures, c .before .before .before .to-all .ensures, sym (c .before .before .before .before .before .before .before .collects .ensures) ∙ not-false _ (c .before .before .before .before .before .before .if1 .left), ← c .before .before .before .before .before .awaited .ensures, eq-eqb _ _ (c .before .before .before .before .if2 .left), sym (c .before .before .in-p .ensures) ∙ c .before .if3 .taken)
 
-in-state-requires-2 : tie.Need-in-state-requires-2
-in-state-requires-2 c κs = search needs
-
-taken-requires-2 : tie.Need-taken-requires-2
-taken-requires-2 c κs = search needs
+moved-requires-2 : tie.Need-moved-requires-2
+moved-requires-2 c κs = search needs
 
 returns-4 : tie.Need-returns-4
 unfolding settleOf
-returns-4 c = simp (c .taken2 .ensures, c .before .in-state2 .ensures, c .before .before .before .before .to-all .ensures, sym (c .before .before .before .before .before .before .before .before .collects .ensures) ∙ not-false _ (c .before .before .before .before .before .before .before .if1 .left), ← c .before .before .before .before .before .before .awaited .ensures, eq-eqb _ _ (c .before .before .before .before .before .if2 .left), sym (c .before .before .before .in-p .ensures) ∙ c .before .before .if3 .left)
+returns-4 c = simp (c .moved2 .ensures, c .before .before .before .to-all .ensures, sym (c .before .before .before .before .before .before .before .collects .ensures) ∙ not-false _ (c .before .before .before .before .before .before .if1 .left), ← c .before .before .before .before .before .awaited .ensures, eq-eqb _ _ (c .before .before .before .before .if2 .left), sym (c .before .before .in-p .ensures) ∙ c .before .if3 .left)
 
 pub settle-spec : {M : Type 1} → statement M
 settle-spec =
@@ -65,9 +59,7 @@ settle-spec =
     returns-2
     to-all-requires
     in-p-requires
-    in-state-requires
-    taken-requires
+    moved-requires
     returns-3
-    in-state-requires-2
-    taken-requires-2
+    moved-requires-2
     returns-4)
