@@ -1,18 +1,18 @@
 -- Masks below 2 ^ 8, and what lies within what. A set within a set of sites is a mask of eight places: with it, members decide.
 -- Assumes nothing.
-use Prim.Native.Nat.{ℕ, zero, suc, _-_, _^_, _<_, _≤_}
-use mathlib.Core.Bool.{Bool, true, false, cond, _&&_, _||_, not}
-use mathlib.Core.Path.{_≡_, refl, sym, ap, subst, _∙_}
-use mathlib.Core.Logic.{_⊎_, inl, inr, ⊎-elim}
+use Prim.Native.Nat.{ℕ, _-_, _^_, _<_}
+use mathlib.Core.Bool.{Bool, true, false, cond, _&&_}
+use mathlib.Core.Path.{_≡_, refl, sym, subst, _∙_}
+use mathlib.Core.Logic.{⊎-elim}
 use native.Mathlib.Nat.{lt-of-le-of-lt, lt-of-lt-of-le}
 use native.Mathlib.Omega.{arith}
 use native.Mathlib.Decide.{decLt}
-use lib.Dec.{eqb, leb, ltb, lit<, lit≤}
+use lib.Dec.{eqb, ltb, lit<}
 use lib.Pow.{pow-mono, pow-lt, ones-lt}
 use lib.Count.{ones}
-use lib.Bits.{bitAnd, bitOr, and-le-l, and-le-r, and-zero-l, or-lt, xor-lt, or-add-and}
+use lib.Bits.{bitAnd, and-le-l, and-le-r, and-zero-l, and-self, or-lt, xor-lt, or-add-and}
 use borrow.Author.Tests.{lt-ltb, le-ltb, eq-eqb, eqb-true}
-use Rattle.sets.specs.Sets.{isSite, has, weightOf, union, both, minus, withSite, without, subset, allOf, othersOf, belowOf, countOf}
+use Rattle.sets.specs.Sets.{isSite, has, weightOf, union, both, minus, withSite, without, subset, allOf, othersOf, countOf}
 use Rattle.sets.specs.SetLaws.{is-site, has-none, has-union, has-with, ext, subset-has, subset-of}
 use Rattle.sets.specs.Truths.{or-e, or-l, or-r, and-r}
 
@@ -74,8 +74,16 @@ pub subset-none : (b : ℕ) → subset 0 b ≡ true
 unfolding subset
 subset-none b = eq-eqb (bitAnd 0 b) 0 (and-zero-l b)
 
+pub subset-self : (a : ℕ) → subset a a ≡ true
+unfolding subset
+subset-self a = eq-eqb (bitAnd a a) a (and-self a)
+
 pub subset-trans : (a b c : ℕ) → b < 2 ^ 8 → subset a b ≡ true → subset b c ≡ true → subset a c ≡ true
 subset-trans a b c h p q = subset-of a c (subset-lt a b p h) (λ j m. subset-has b c j q (subset-has a b j p m))
+
+-- a set lies within itself with one site more
+pub within-with : (a j : ℕ) → a < 2 ^ 8 → subset a (withSite a j) ≡ true
+within-with a j h = subset-of a (withSite a j) h (λ i m. has-with a j i ∙ or-l (has a i) (isSite i && eqb i j) m)
 
 module _ (a b c : ℕ) (h : c < 2 ^ 8) where
   -- a union lies within a set exactly when both of its parts do

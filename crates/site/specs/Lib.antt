@@ -4,4 +4,5 @@ pub mod Leader
 pub mod Step
 pub mod SiteFacts
 pub mod SiteSteps
+pub mod SiteMessages
 pub mod SiteLaws

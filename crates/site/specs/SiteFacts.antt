@@ -2,15 +2,17 @@
 -- SiteSteps shows that every rule gives one of these; SiteLaws reads the theorems off them.
 -- Assumes nothing.
 use Prim.Native.Nat.{ℕ, _≤_, _<_}
-use mathlib.Core.Bool.{Bool, true, false}
+use mathlib.Core.Bool.{Bool, true, false, _||_}
 use mathlib.Core.Path.{_≡_}
-use mathlib.Core.Logic.{_⊎_}
+use mathlib.Core.Logic.{_≢_, _⊎_}
+use lib.Dec.{eqb}
 use Rattle.sets.specs.Sets.{has, weightOf, withSite, subset, othersOf, belowOf}
 use Rattle.site.specs.declared.State.{State}
 use Rattle.site.specs.declared.State.the-variants.{Q, W, P, A, C}
 use Rattle.site.specs.declared.Site.{Site}
 use Rattle.site.specs.declared.Step.{Step}
-use Rattle.site.specs.declared.Step.the-variants.{Deliver, Notice, Conclude}
+use Rattle.site.specs.declared.Step.the-variants.{Start, Deliver, Notice, Conclude}
+use Rattle.site.specs.declared.Vote.{Vote}
 use Rattle.site.specs.declared.Done.{Done}
 use Rattle.site.specs.Site.{soundOf, namesOf, toAll, following, refused, passed, taken}
 
@@ -92,11 +94,16 @@ pub data Outward (s : Site) : ℕ → Type 0 where
   commits : Outward s 7
   aborts : Outward s 8
 
--- back to one lower site, the sender: Yes and No to site 1, Ack to the leader
-pub data Back (s : Site) : ℕ → ℕ → Type 0 where
-  says-yes : 1 < s .number → Back s 2 1
-  says-no : 1 < s .number → Back s 3 1
-  acks : {from : ℕ} → 1 ≤ from → from < s .number → Back s 6 from
+-- the sender of the message that a step delivers
+pub data Sends : Step → ℕ → Type 0 where
+  a-start : {from : ℕ} {v : Vote} → Sends (Start from v) from
+  another : {k from : ℕ} → Sends (Deliver k from) from
+
+-- back to the sender, a lower site: Yes and No to site 1, Ack to the leader
+pub data Back (s : Site) (t : Step) : ℕ → ℕ → Type 0 where
+  says-yes : Sends t 1 → 1 < s .number → Back s t 2 1
+  says-no : Sends t 1 → 1 < s .number → Back s t 3 1
+  acks : {from : ℕ} → Sends t from → 1 ≤ from → from < s .number → Back s t 6 from
 
 -- a leader concludes
 pub record Concludes (s : Site) (t : Step) : Type 0 where
@@ -107,7 +114,7 @@ pub record Concludes (s : Site) (t : Step) : Type 0 where
 pub data Wrote (s : Site) (t : Step) : ℕ → ℕ → Type 0 where
   nothing : Wrote s t 0 0
   to-all : {k : ℕ} → Outward s k → lowerKnown s ≡ true ⊎ Concludes s t → Wrote s t k (toAll s)
-  to-one : {k j : ℕ} → Back s k j → Wrote s t k (weightOf j)
+  to-one : {k j : ℕ} → Back s t k j → Wrote s t k (weightOf j)
 
 -- ---- how a step ends
 
@@ -116,10 +123,36 @@ pub record Fit (s : Site) (t : Step) : Type 0 where
   pub sound : SoundSite s
   pub names : namesOf s t ≡ true
 
+-- the grounds of a single step, each where its turn in their order comes
+pub data Ground (s : Site) (t : Step) : ℕ → Type 0 where
+  not-sound : soundOf s ≡ false → Ground s t 1
+  wrong-names : SoundSite s → namesOf s t ≡ false → Ground s t 2
+  not-allowed : Fit s t → Ground s t 5
+  in-conflict : Fit s t → Ground s t 6
+
+-- a step is refused with its ground, passed over, or taken
 pub data Did (s : Site) (t : Step) : Done → Type 0 where
-  unsound : soundOf s ≡ false → Did s t (refused s 1)
-  misnamed : SoundSite s → namesOf s t ≡ false → Did s t (refused s 2)
-  unallowed : Fit s t → Did s t (refused s 5)
-  conflicts : Fit s t → Did s t (refused s 6)
+  refuses : {g : ℕ} → Ground s t g → Did s t (refused s g)
   passes : Fit s t → {l : ℕ} → Follows s l → Did s t (passed (following s l))
   takes : Fit s t → {x : Site} {k m : ℕ} → Change s t x → Wrote s t k m → Did s t (taken x k m)
+
+-- ---- one message
+
+-- another site of the run
+pub record Other (s : Site) (j : ℕ) : Type 0 where
+  pub first : 1 ≤ j
+  pub last : j ≤ s .n
+  pub apart : j ≢ s .number
+
+-- Yes, No and Ack are answers
+abbrev pub isAnswer : ℕ → Bool
+isAnswer k = eqb k 2 || eqb k 3 || eqb k 6
+
+-- a message of kind k to site j that a step writes
+pub record Message (s : Site) (t : Step) (k j : ℕ) : Type 0 where
+  pub least : 1 ≤ k
+  pub most : k ≤ 8
+  pub other : has (others s) j ≡ true
+  pub unknown : isAnswer k ≡ false → has (s .known) j ≡ false
+  pub sender : isAnswer k ≡ true → Sends t j
+  pub ends : (Concludes s t → lowerKnown s ≡ true) → Ends k (s .number) j

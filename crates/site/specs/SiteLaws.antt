@@ -1,40 +1,36 @@
 -- Theorems about the site step, for every record and every step.
 -- Assumes nothing.
-use Prim.Native.Nat.{ℕ, zero, suc, _+_, _-_, _^_, _≤_, _<_}
-use mathlib.Core.Bool.{Bool, true, false, cond, not, _&&_, _||_, true≢false, false≢true}
+use Prim.Native.Nat.{ℕ, _^_, _≤_, _<_}
+use mathlib.Core.Bool.{Bool, true, false, cond, _&&_, false≢true}
 use mathlib.Core.Path.{_≡_, refl, sym, ap, subst, _∙_}
-use mathlib.Core.Logic.{_≢_, _⊎_, inl, inr, ⊎-elim, _↔_}
+use mathlib.Core.Logic.{inl, ⊎-elim, _↔_}
 use native.Mathlib.Omega.{arith}
-use native.Mathlib.Decide.{decLt, ℕ-discrete}
-use lib.Dec.{eqb, leb, ltb, lit<, lit≤}
-use borrow.Author.Tests.{lt-ltb, ltb-true, le-leb, leb-true, eq-eqb, ne-eqb, eqb-true, eqb-false}
-use Rattle.sets.specs.Sets.{isSite, has, weightOf, minus, withSite, subset, othersOf, belowOf, countOf}
-use Rattle.sets.specs.SetLaws.{Site as Eight, is-site, site-is, has-site, has-none, has-weight, has-minus, has-with, has-others, has-below, subset-has, subset-of, members, count-is}
-use Rattle.sets.specs.Truths.{and-l, and-r, and-i, or-l, not-i, not-e, clash, fails, Either, holds, failed, either}
-use Rattle.sets.specs.SubsetLaws.{all-lt, others-lt, minus-lt, weight-lt, with-within, subset-none, nobody, count-none}
+use lib.Dec.{eqb, ltb, lit<, lit≤}
+use borrow.Author.Tests.{ltb-true}
+use Rattle.sets.specs.Sets.{isSite, has, subset, countOf}
+use Rattle.sets.specs.SetLaws.{has-minus, has-with, members, count-is}
+use Rattle.sets.specs.Truths.{and-r, or-l, fails, Either, holds, failed, either}
+use Rattle.sets.specs.SubsetLaws.{others-lt, minus-lt, weight-lt, with-within, subset-none, nobody, count-none}
 use Rattle.site.specs.declared.State.{State}
 use Rattle.site.specs.declared.State.the-variants.{Q, W, P, A, C}
 use Rattle.site.specs.declared.Site.{Site}
 use Rattle.site.specs.declared.Step.{Step}
 use Rattle.site.specs.declared.Step.the-variants.{Conclude}
-use Rattle.site.specs.declared.Outcome.{Outcome}
 use Rattle.site.specs.declared.Outcome.the-variants.{Taken, Passed, Refused}
 use Rattle.site.specs.declared.Done.{Done}
 use Rattle.site.specs.declared.Answer.{Answer}
-use Rattle.site.specs.Site.{soundOf, endsOf, toAll, namesOf, inState, following, isP, polls, collects, awaitedOf, refused, passed, taken}
-use Rattle.site.specs.First.{tallyOf}
-use Rattle.site.specs.Leader.{settleOf}
-use Rattle.site.specs.Step.{concludeOf, doneOf, countsOf, answered, stepOf}
-use Rattle.site.specs.SiteFacts.{others, SoundSite, lowerKnown, Ends, Moves, Follows, Grows, Change, Outward, Back, Concludes, Wrote, Fit, Did}
-use Rattle.site.specs.SiteFacts.Ends.{start, yes as ends-yes, no as ends-no, move-p, move-w, ack, commit, abort}
+use Rattle.site.specs.Site.{soundOf, endsOf, toAll, namesOf, following}
+use Rattle.site.specs.Step.{doneOf, countsOf, answered, stepOf}
+use Rattle.site.specs.SiteFacts.{others, SoundSite, lowerKnown, Moves, Follows, Grows, Change, Outward, Concludes, Wrote, Ground, Did, Other, isAnswer, Sends}
 use Rattle.site.specs.SiteFacts.Moves.{stays, q-w, q-a, w-p, w-a, p-w, p-c}
 use Rattle.site.specs.SiteFacts.Follows.{same, obeys, leads}
 use Rattle.site.specs.SiteFacts.Grows.{kept, gained}
 use Rattle.site.specs.SiteFacts.Outward.{starts, moves-p, moves-w, commits, aborts}
-use Rattle.site.specs.SiteFacts.Back.{says-yes, says-no, acks}
 use Rattle.site.specs.SiteFacts.Wrote.{nothing, to-all, to-one}
-use Rattle.site.specs.SiteFacts.Did.{unsound, misnamed, unallowed, conflicts, passes, takes}
+use Rattle.site.specs.SiteFacts.Ground.{not-sound, wrong-names, not-allowed, in-conflict}
+use Rattle.site.specs.SiteFacts.Did.{refuses, passes, takes}
 use Rattle.site.specs.SiteSteps.{sound-parts, parts-sound, parts-ends, did}
+use Rattle.site.specs.SiteMessages.{other-parts, parts-other, known-lower, written-as, out-kind, back-kind, kind-of, message, Concluded, concluded}
 
 -- ---- the record afterwards
 
@@ -43,10 +39,7 @@ follows-only s t l h =
     record { n = refl; number = refl; state = stays; leader = h; known = kept; yes = kept; no = kept; acked = inl kept }
 
 changed : {s : Site} {t : Step} {d : Done} → Did s t d → Change s t (d .site)
-changed {s} {t} (unsound e) = follows-only s t (s .leader) same
-changed {s} {t} (misnamed g e) = follows-only s t (s .leader) same
-changed {s} {t} (unallowed f) = follows-only s t (s .leader) same
-changed {s} {t} (conflicts f) = follows-only s t (s .leader) same
+changed {s} {t} (refuses g) = follows-only s t (s .leader) same
 changed {s} {t} (passes f {l} h) = follows-only s t l h
 changed (takes f c w) = c
 
@@ -131,14 +124,8 @@ pub refused-unchanged : (s : Site) (t : Step) (g : ℕ) → stepOf s t .outcome 
 unfolding stepOf answered
 refused-unchanged s t g e = go (did s t) e
   where
-    same-ground : (h : ℕ) → Refused h ≡ Refused g → refusal s h ≡ refusal s g
-    same-ground h e = let z : h ≡ g = cc in ap (refusal s) z
-
     go : {d : Done} → Did s t d → d .outcome ≡ Refused g → answered d ≡ refusal s g
-    go (unsound h) e = same-ground 1 e
-    go (misnamed h k) e = same-ground 2 e
-    go (unallowed f) e = same-ground 5 e
-    go (conflicts f) e = same-ground 6 e
+    go (refuses {g = h} x) e = let z : h ≡ g = cc in ap (refusal s) z
     go (passes f h) e = let z : _≡_ {A = ℕ} 0 1 = cc in absurd (omega arith)
     go (takes f c w) e = let z : _≡_ {A = ℕ} 0 1 = cc in absurd (omega arith)
 
@@ -156,33 +143,17 @@ unfolding stepOf answered
 passed-over s t e = go (did s t) e
   where
     go : {d : Done} → Did s t d → d .outcome ≡ Passed → PassedOver s (answered d)
-    go (unsound h) e = let z : _≡_ {A = ℕ} 0 1 = cc in absurd (omega arith)
-    go (misnamed h k) e = let z : _≡_ {A = ℕ} 0 1 = cc in absurd (omega arith)
-    go (unallowed f) e = let z : _≡_ {A = ℕ} 0 1 = cc in absurd (omega arith)
-    go (conflicts f) e = let z : _≡_ {A = ℕ} 0 1 = cc in absurd (omega arith)
+    go (refuses g) e = let z : _≡_ {A = ℕ} 0 1 = cc in absurd (omega arith)
     go (passes f {l} h) e = record { leader = l; follows = h; site = refl; kind = refl; to = refl; written = count-none }
     go (takes f c w) e = let z : _≡_ {A = ℕ} 0 1 = cc in absurd (omega arith)
-
--- the grounds of a single step
-pub data Ground (s : Site) (t : Step) : ℕ → Type 0 where
-  not-sound : soundOf s ≡ false → Ground s t 1
-  wrong-names : soundOf s ≡ true → namesOf s t ≡ false → Ground s t 2
-  not-allowed : soundOf s ≡ true → namesOf s t ≡ true → Ground s t 5
-  in-conflict : soundOf s ≡ true → namesOf s t ≡ true → Ground s t 6
 
 -- "A single site step can give 1, 2, 5, 6": and each where its place in the order is reached
 pub grounds : (s : Site) (t : Step) (g : ℕ) → stepOf s t .outcome ≡ Refused g → Ground s t g
 unfolding stepOf answered
 grounds s t g e = go (did s t) e
   where
-    named : (h : ℕ) → Ground s t h → Refused h ≡ Refused g → Ground s t g
-    named h x e = let z : h ≡ g = cc in rw z at x
-
     go : {d : Done} → Did s t d → d .outcome ≡ Refused g → Ground s t g
-    go (unsound h) e = named 1 (not-sound h) e
-    go (misnamed h k) e = named 2 (wrong-names (parts-sound s h) k) e
-    go (unallowed f) e = named 5 (not-allowed (parts-sound s (f .sound)) (f .names)) e
-    go (conflicts f) e = named 6 (in-conflict (parts-sound s (f .sound)) (f .names)) e
+    go (refuses {g = h} x) e = let z : h ≡ g = cc in rw z at x
     go (passes f h) e = let z : _≡_ {A = ℕ} 0 1 = cc in absurd (omega arith)
     go (takes f c w) e = let z : _≡_ {A = ℕ} 0 1 = cc in absurd (omega arith)
 
@@ -194,8 +165,8 @@ ground-1 s t = (λ e. go (grounds s t 1 e) refl, λ e. rw e refl)
     go : {g : ℕ} → Ground s t g → g ≡ 1 → soundOf s ≡ false
     go (not-sound h) e = h
     go (wrong-names h k) e = absurd (omega arith)
-    go (not-allowed h k) e = absurd (omega arith)
-    go (in-conflict h k) e = absurd (omega arith)
+    go (not-allowed f) e = absurd (omega arith)
+    go (in-conflict f) e = absurd (omega arith)
 
 -- ground 2 exactly where it is, and the step names what it must not
 pub ground-2 : (s : Site) (t : Step) → stepOf s t .outcome ≡ Refused 2 ↔ (soundOf s ≡ true) × (namesOf s t ≡ false)
@@ -207,23 +178,11 @@ ground-2 s t = (λ e. go (grounds s t 2 e) refl, λ e. back (e .0) (e .1))
 
     go : {g : ℕ} → Ground s t g → g ≡ 2 → (soundOf s ≡ true) × (namesOf s t ≡ false)
     go (not-sound h) e = absurd (omega arith)
-    go (wrong-names h k) e = (h, k)
-    go (not-allowed h k) e = absurd (omega arith)
-    go (in-conflict h k) e = absurd (omega arith)
+    go (wrong-names h k) e = (parts-sound s h, k)
+    go (not-allowed f) e = absurd (omega arith)
+    go (in-conflict f) e = absurd (omega arith)
 
 -- ---- what is written
-
--- what a step of a sound record may have written; nothing if it is refused or passed over
-pub written-as : (s : Site) (t : Step) → Wrote s t (doneOf s t .kind) (doneOf s t .to)
-written-as s t = go (did s t)
-  where
-    go : {d : Done} → Did s t d → Wrote s t (d .kind) (d .to)
-    go (unsound h) = nothing
-    go (misnamed h k) = nothing
-    go (unallowed f) = nothing
-    go (conflicts f) = nothing
-    go (passes f h) = nothing
-    go (takes f c w) = w
 
 -- the receivers are a set of sites
 pub to-lt : (s : Site) (t : Step) → stepOf s t .to < 2 ^ 8
@@ -241,154 +200,23 @@ unfolding stepOf answered
 written-counts s t = go (did s t) ∙ count-is (stepOf s t .to) (to-lt s t)
   where
     go : {d : Done} → Did s t d → countsOf (d .outcome) (d .site) (d .to) .written ≡ countOf (d .to)
-    go (unsound h) = sym count-none
-    go (misnamed h k) = sym count-none
-    go (unallowed f) = sym count-none
-    go (conflicts f) = sym count-none
+    go (refuses g) = sym count-none
     go (passes f h) = refl
     go (takes f c w) = refl
-
--- Yes, No and Ack answer one message: they go to its sender
-abbrev pub isAnswer : ℕ → Bool
-isAnswer k = eqb k 2 || eqb k 3 || eqb k 6
-
--- a message that a step writes, of kind k to site j
-pub record Message (s : Site) (t : Step) (k j : ℕ) : Type 0 where
-  pub sound : SoundSite s
-  pub other : has (others s) j ≡ true
-  pub unknown : isAnswer k ≡ false → has (s .known) j ≡ false
-  pub ends : (Concludes s t → lowerKnown s ≡ true) → Ends k (s .number) j
-  pub least : 1 ≤ k
-  pub most : k ≤ 8
-
--- among the others: a site of the run, not the site itself
-pub record Other (s : Site) (j : ℕ) : Type 0 where
-  pub first : 1 ≤ j
-  pub last : j ≤ s .n
-  pub apart : j ≢ s .number
-
-pub other-parts : (s : Site) (j : ℕ) → has (others s) j ≡ true → Other s j
-other-parts s j h =
-    record {
-      first = has-site (others s) j h .least;
-      last = leb-true j (s .n) (and-r (isSite j) (leb j (s .n)) both);
-      apart = eqb-false j (s .number) (not-e (eqb j (s .number)) (and-r (isSite j && leb j (s .n)) (not (eqb j (s .number))) split));
-    }
-  where
-    split : (isSite j && leb j (s .n) && not (eqb j (s .number))) ≡ true
-    split = sym (has-others (s .n) (s .number) j) ∙ h
-
-    both : (isSite j && leb j (s .n)) ≡ true
-    both = and-l (isSite j && leb j (s .n)) (not (eqb j (s .number))) split
-
-pub parts-other : (s : Site) (j : ℕ) → SoundSite s → Other s j → has (others s) j ≡ true
-parts-other s j g o =
-    has-others (s .n) (s .number) j
-    ∙ simp (site-is j (o .first) (omega (arith, o .last, g .most)), le-leb j (s .n) (o .last), ne-eqb j (s .number) (o .apart))
-
-out-kind : {s : Site} {k : ℕ} → Outward s k → (1 ≤ k) × (k ≤ 8)
-out-kind (starts e) = (lit≤ tt, lit≤ tt)
-out-kind moves-p = (lit≤ tt, lit≤ tt)
-out-kind moves-w = (lit≤ tt, lit≤ tt)
-out-kind commits = (lit≤ tt, lit≤ tt)
-out-kind aborts = (lit≤ tt, lit≤ tt)
-
-back-kind : {s : Site} {k i : ℕ} → Back s k i → k ≤ 8
-back-kind (says-yes l) = lit≤ tt
-back-kind (says-no l) = lit≤ tt
-back-kind (acks f l) = lit≤ tt
-
--- every lower site is known stopped: site by site
-pub lower-known : (s : Site) → SoundSite s → lowerKnown s ≡ true → (j : ℕ) → 1 ≤ j → j < s .number → has (s .known) j ≡ true
-unfolding lowerKnown
-lower-known s g l j f h =
-    subset-has (belowOf (s .number)) (s .known) j l
-    (has-below (s .number) j ∙ simp (site-is j f (omega (arith, g .last, g .most)), lt-ltb j (s .number) h))
-
-pub known-lower : (s : Site) → ((j : ℕ) → 1 ≤ j → j < s .number → has (s .known) j ≡ true) → lowerKnown s ≡ true
-unfolding lowerKnown belowOf
-known-lower s f = subset-of (belowOf (s .number)) (s .known) (all-lt (s .number - 1)) (λ j h. go j (sym (has-below (s .number) j) ∙ h))
-  where
-    go : (j : ℕ) → (isSite j && ltb j (s .number)) ≡ true → has (s .known) j ≡ true
-    go j h = f j (is-site j (and-l (isSite j) (ltb j (s .number)) h) .least) (ltb-true j (s .number) (and-r (isSite j) (ltb j (s .number)) h))
-
-module _ (s : Site) (t : Step) (j : ℕ) (g : SoundSite s) where
-  -- a receiver of what goes to all
-  all-parts : has (toAll s) j ≡ true → (has (others s) j ≡ true) × (has (s .known) j ≡ false)
-  unfolding toAll
-  all-parts h =
-      let e : (has (others s) j && not (has (s .known) j)) ≡ true = sym (has-minus (others s) (s .known) j) ∙ h in
-      (and-l (has (others s) j) (not (has (s .known) j)) e, not-e (has (s .known) j) (and-r (has (others s) j) (not (has (s .known) j)) e))
-
-  -- it is a higher site where all lower ones are known stopped
-  higher : has (toAll s) j ≡ true → lowerKnown s ≡ true → s .number < j
-  higher h l = go (decLt (s .number) j)
-    where
-      o : Other s j
-      o = other-parts s j (all-parts h .0)
-
-      go : Dec (s .number < j) → s .number < j
-      go (yes x) = x
-      go (no x) = absurd (clash (lower-known s g l j (o .first) (omega (arith, o .apart))) (all-parts h .1))
-
-  out-ends : {k : ℕ} → Outward s k → s .number < j → Ends k (s .number) j
-  out-ends (starts e) l = rw e (start {to = j} (omega arith))
-  out-ends moves-p l = move-p l
-  out-ends moves-w l = move-w l
-  out-ends commits l = commit l
-  out-ends aborts l = abort l
-
-  below : (i : ℕ) → 1 ≤ i → i < s .number → j ≡ i → has (others s) j ≡ true
-  below i f l e = parts-other s j g (record { first = omega arith; last = omega (arith, g .last); apart = omega arith })
-
-  back-message : {k i : ℕ} → Back s k i → j ≡ i → Message s t k j
-  back-message (says-yes l) e =
-      record { sound = g; other = below 1 (lit≤ tt) l e; unknown = λ x. absurd (true≢false x); ends = λ x. rw e (ends-yes l); least = lit≤ tt; most = lit≤ tt }
-  back-message (says-no l) e =
-      record { sound = g; other = below 1 (lit≤ tt) l e; unknown = λ x. absurd (true≢false x); ends = λ x. rw e (ends-no l); least = lit≤ tt; most = lit≤ tt }
-  back-message (acks {from} f l) e =
-      record { sound = g; other = below from f l e; unknown = λ x. absurd (true≢false x); ends = λ x. rw e (ack l); least = lit≤ tt; most = lit≤ tt }
-
-  wrote-message : {k m : ℕ} → Wrote s t k m → has m j ≡ true → Message s t k j
-  wrote-message nothing h = absurd (clash h (has-none j))
-  wrote-message (to-all o l) h =
-      record {
-        sound = g;
-        other = all-parts h .0;
-        unknown = λ x. all-parts h .1;
-        ends = λ x. out-ends o (higher h (⊎-elim (λ y. y) x l));
-        least = out-kind o .0;
-        most = out-kind o .1;
-      }
-  wrote-message (to-one {j = i} b) h = back-message b (eqb-true j i (and-r (isSite j) (eqb j i) (sym (has-weight i j) ∙ h)))
-
--- where somebody is written to, the kind is the rule's
-pub kind-of : (s : Site) (t : Step) (j : ℕ) → has (stepOf s t .to) j ≡ true → stepOf s t .kind ≡ doneOf s t .kind
-unfolding stepOf answered
-kind-of s t j h = rw (ne-eqb (doneOf s t .to) 0 (λ e. clash h (ap (λ (y : ℕ). has y j) e ∙ has-none j))) refl
-
--- each receiver's message
-pub message : (s : Site) (t : Step) (j : ℕ) → has (stepOf s t .to) j ≡ true → Message s t (stepOf s t .kind) j
-unfolding stepOf answered
-message s t j h = subst (λ (k : ℕ). Message s t k j) (sym (kind-of s t j h)) (go (did s t) h)
-  where
-    go : {d : Done} → Did s t d → has (d .to) j ≡ true → Message s t (d .kind) j
-    go (unsound x) h = absurd (clash h (has-none j))
-    go (misnamed g x) h = absurd (clash h (has-none j))
-    go (unallowed f) h = absurd (clash h (has-none j))
-    go (conflicts f) h = absurd (clash h (has-none j))
-    go (passes f x) h = absurd (clash h (has-none j))
-    go (takes f c w) h = wrote-message s t j (f .sound) w h
 
 -- the receivers are other sites of 1 to n
 pub receivers-others : (s : Site) (t : Step) (j : ℕ) → has (stepOf s t .to) j ≡ true → Other s j
 receivers-others s t j h = other-parts s j (message s t j h .other)
 
--- none of them is known stopped, but perhaps the one that a Yes, No or Ack answers
+-- none of them is known stopped, but perhaps the one that a Yes, No or Ack goes to
 pub receivers-unknown : (s : Site) (t : Step) (j : ℕ) → has (stepOf s t .to) j ≡ true → isAnswer (stepOf s t .kind) ≡ false → has (s .known) j ≡ false
 receivers-unknown s t j h = message s t j h .unknown
 
--- every message has the right ends for its kind, of a leader that concludes where it knows all lower sites stopped
+-- those three go to the sender of the message that is delivered
+pub answers-sender : (s : Site) (t : Step) (j : ℕ) → has (stepOf s t .to) j ≡ true → isAnswer (stepOf s t .kind) ≡ true → Sends t j
+answers-sender s t j h = message s t j h .sender
+
+-- every message has the right ends for its kind; of a leader that concludes, if it knows all lower sites stopped
 pub right-ends : (s : Site) (t : Step) (j : ℕ) → (Concludes s t → lowerKnown s ≡ true) → has (stepOf s t .to) j ≡ true → endsOf (stepOf s t .kind) (s .number) j ≡ true
 right-ends s t j l h = parts-ends (message s t j h .ends l)
 
@@ -409,38 +237,6 @@ kind-most s t = go (eqb (doneOf s t .to) 0) (most (written-as s t))
 pub kind-none : (s : Site) (t : Step) → stepOf s t .kind ≡ 0 ↔ ((j : ℕ) → has (stepOf s t .to) j ≡ false)
 unfolding stepOf answered
 kind-none s t = (λ e j. fails (has (stepOf s t .to) j) (λ h. omega (arith, message s t j h .least)), λ f. rw (nobody (stepOf s t .to) (to-lt s t) f) refl)
-
--- a taken Conclude writes to all
-record Concluded (s : Site) (d : Done) : Type 0 where
-  sound : soundOf s ≡ true
-  to : d .to ≡ toAll s
-  kind : Outward s (d .kind)
-
-concluded : (s : Site) → doneOf s Conclude .outcome ≡ Taken → Concluded s (doneOf s Conclude)
-unfolding doneOf concludeOf tallyOf settleOf
-concluded s =
-    go (soundOf s) (polls s) (not (eqb (s .no) 0) || not (subset (s .known) (s .yes))) (subset (others s) (s .yes))
-    (collects s && eqb (awaitedOf s) 0) (isP (s .state)) refl
-  where
-    wrote : (q : State) {k : ℕ} → soundOf s ≡ true → Outward s k → Concluded s (taken (inState s q) k (toAll s))
-    wrote q e o = record { sound = e; to = refl; kind = o }
-
-    not-taken : (g : ℕ) → Refused g ≡ Taken → Concluded s (refused s g)
-    not-taken g h = let z : _≡_ {A = ℕ} 0 1 = cc in absurd (omega arith)
-
-    rule : Bool → Bool → Bool → Bool → Bool → Done
-    rule b x y z p =
-        cond b (cond x (taken (inState s A) 8 (toAll s)) (cond y (taken (inState s P) 4 (toAll s)) (refused s 5)))
-        (cond z (cond p (taken (inState s C) 7 (toAll s)) (taken (inState s A) 8 (toAll s))) (refused s 5))
-
-    go : (o b x y z p : Bool) → soundOf s ≡ o → cond o (rule b x y z p) (refused s 1) .outcome ≡ Taken → Concluded s (cond o (rule b x y z p) (refused s 1))
-    go true true true y z p e h = wrote A e aborts
-    go true true false true z p e h = wrote P e moves-p
-    go true true false false z p e h = not-taken 5 h
-    go true false x y true true e h = wrote C e commits
-    go true false x y true false e h = wrote A e aborts
-    go true false x y false p e h = not-taken 5 h
-    go false b x y z p e h = not-taken 1 h
 
 -- that side condition is exact: a Conclude whose messages all have the right ends is one of a site that knows all lower ones stopped
 pub ends-need : (s : Site) → stepOf s Conclude .outcome ≡ Taken

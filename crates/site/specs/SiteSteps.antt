@@ -1,16 +1,16 @@
 -- Every rule of a site gives one of SiteFacts' outcomes.
 -- Assumes nothing.
-use Prim.Native.Nat.{ℕ, zero, suc, _+_, _-_, _^_, _≤_, _<_}
+use Prim.Native.Nat.{ℕ, _^_, _≤_, _<_}
 use mathlib.Core.Bool.{Bool, true, false, cond, not, _&&_, _||_, true≢false, false≢true}
-use mathlib.Core.Path.{_≡_, refl, sym, ap, subst, _∙_}
-use mathlib.Core.Logic.{_≢_, _⊎_, inl, inr, ⊎-elim}
+use mathlib.Core.Path.{_≡_, refl, _∙_, subst}
+use mathlib.Core.Logic.{_≢_, inl, inr}
 use native.Mathlib.Omega.{arith}
 use lib.Dec.{eqb, leb, ltb}
-use borrow.Author.Tests.{lt-ltb, le-ltb, le-leb, leb-true, eq-eqb, ne-eqb, eqb-true, eqb-false, ltb-true, ltb-false}
-use Rattle.sets.specs.Sets.{isSite, has, weightOf, union, withSite, subset, allOf, othersOf, belowOf}
+use borrow.Author.Tests.{lt-ltb, le-leb, leb-true, ne-eqb, eqb-true, eqb-false, ltb-true, ltb-false}
+use Rattle.sets.specs.Sets.{has, weightOf, union, withSite, subset, allOf, belowOf}
 use Rattle.sets.specs.SetLaws.{site-is, has-others}
-use Rattle.sets.specs.Truths.{and-l, and-r, and-i, or-e, not-i, not-e, clash, Either, holds, failed, either}
-use Rattle.sets.specs.SubsetLaws.{others-lt, union-within, within-l, within-r, with-within, subset-none}
+use Rattle.sets.specs.Truths.{and-l, and-r, not-e}
+use Rattle.sets.specs.SubsetLaws.{others-lt, union-within, within-l, within-r, subset-none}
 use Rattle.site.specs.declared.State.{State}
 use Rattle.site.specs.declared.State.the-variants.{Q, W, P, A, C}
 use Rattle.site.specs.declared.Vote.{Vote}
@@ -20,20 +20,21 @@ use Rattle.site.specs.declared.Order.the-variants.{To, Over, Conflict}
 use Rattle.site.specs.declared.Site.{Site}
 use Rattle.site.specs.declared.Step.{Step}
 use Rattle.site.specs.declared.Step.the-variants.{Begin, Start, Deliver, Notice, TakeOver, Conclude}
-use Rattle.site.specs.declared.Done.{Done}
-use Rattle.site.specs.Site.{isQ, isW, isP, inState, following, knowing, withYes, withNo, withAcked, named, soundOf, isOrder, endsOf, toAll, inRun, namesOf, follows, polls, collects, awaitedOf, refused, passed, taken}
+use Rattle.site.specs.Site.{isQ, isW, isP, inState, following, knowing, withAcked, named, soundOf, isOrder, endsOf, toAll, inRun, namesOf, follows, polls, collects, awaitedOf, refused, passed, taken}
 use Rattle.site.specs.First.{begun, beginOf, voted, startOf, noted, voteOf, tallyOf}
 use Rattle.site.specs.Leader.{movePAt, moveWAt, commitAt, abortAt, orderAt, obeyed, obeyOf, ackOf, overIn, takeOverOf, settleOf}
 use Rattle.site.specs.Step.{noticeOf, concludeOf, deliverOf, ruleOf, doneOf}
-use Rattle.site.specs.SiteFacts.{others, SoundSite, lowerKnown, Ends, Moves, Follows, Grows, Change, Outward, Back, Concludes, Wrote, Fit, Did}
+use Rattle.site.specs.SiteFacts.{others, SoundSite, lowerKnown, Ends, Moves, Follows, Change, Outward, Fit, Did, Sends}
 use Rattle.site.specs.SiteFacts.Ends.{start, yes as ends-yes, no as ends-no, move-p, move-w, ack, commit, abort}
 use Rattle.site.specs.SiteFacts.Moves.{stays, q-w, q-a, w-p, w-a, p-w, p-c}
 use Rattle.site.specs.SiteFacts.Follows.{same, obeys, leads}
 use Rattle.site.specs.SiteFacts.Grows.{kept, gained}
 use Rattle.site.specs.SiteFacts.Outward.{starts, moves-p, moves-w, commits, aborts}
+use Rattle.site.specs.SiteFacts.Sends.{a-start, another}
 use Rattle.site.specs.SiteFacts.Back.{says-yes, says-no, acks}
 use Rattle.site.specs.SiteFacts.Wrote.{nothing, to-all, to-one}
-use Rattle.site.specs.SiteFacts.Did.{unsound, misnamed, unallowed, conflicts, passes, takes}
+use Rattle.site.specs.SiteFacts.Ground.{not-sound, wrong-names, not-allowed, in-conflict}
+use Rattle.site.specs.SiteFacts.Did.{refuses, passes, takes}
 
 -- ---- sound records
 
@@ -221,18 +222,24 @@ did-begin s v f = go (eqb (s .number) 1 && isQ (s .state)) refl
 
     go : (b : Bool) → (eqb (s .number) 1 && isQ (s .state)) ≡ b → Did s (Begin v) (cond b (begun v s) (refused s 5))
     go true e = begins v (eqb-true (s .number) 1 (and-l (eqb (s .number) 1) (isQ (s .state)) e)) (is-q (s .state) (and-r (eqb (s .number) 1) (isQ (s .state)) e))
-    go false e = unallowed f
+    go false e = refuses (not-allowed f)
 
 did-start : (s : Site) (from : ℕ) (v : Vote) → Fit s (Start from v) → Did s (Start from v) (startOf s from v)
 unfolding startOf endsOf
 did-start s from v f = go (not (ltb from (s .leader)) && isQ (s .state)) refl
   where
+    ends : (eqb from 1 && ltb 1 (s .number)) ≡ true
+    ends = and-r (inRun s from) (endsOf 1 from (s .number)) (f .names)
+
     above : 1 < s .number
-    above = ltb-true 1 (s .number) (and-r (eqb from 1) (ltb 1 (s .number)) (and-r (inRun s from) (endsOf 1 from (s .number)) (f .names)))
+    above = ltb-true 1 (s .number) (and-r (eqb from 1) (ltb 1 (s .number)) ends)
+
+    sender : Sends (Start from v) 1
+    sender = subst (Sends (Start from v)) (eqb-true from 1 (and-l (eqb from 1) (ltb 1 (s .number)) ends)) a-start
 
     votes : (u : Vote) → s .state ≡ Q → Did s (Start from v) (voted u s)
-    votes Yes q = takes f (turns s (Start from v) f W (s .leader) (rw q q-w) same) (to-one (says-yes above))
-    votes No q = takes f (turns s (Start from v) f A (s .leader) (rw q q-a) same) (to-one (says-no above))
+    votes Yes q = takes f (turns s (Start from v) f W (s .leader) (rw q q-w) same) (to-one (says-yes sender above))
+    votes No q = takes f (turns s (Start from v) f A (s .leader) (rw q q-a) same) (to-one (says-no sender above))
 
     go : (b : Bool) → (not (ltb from (s .leader)) && isQ (s .state)) ≡ b → Did s (Start from v) (cond b (voted v s) (passed s))
     go true e = votes v (is-q (s .state) (and-r (not (ltb from (s .leader))) (isQ (s .state)) e))
@@ -266,19 +273,19 @@ did-ack s t from f d o = go (collects s)
         takes f (record { n = refl; number = refl; state = stays; leader = same; known = kept; yes = kept; no = kept; acked = inl (gained from d o) }) nothing
     go false = passes f same
 
-did-obey : (s : Site) (t : Step) (k from : ℕ) → Fit s t → 1 ≤ from → from < s .number → Lawful (s .state) (orderAt k (s .state)) → Did s t (obeyOf s k from)
+did-obey : (s : Site) (t : Step) (k from : ℕ) → Fit s t → Sends t from → 1 ≤ from → from < s .number → Lawful (s .state) (orderAt k (s .state)) → Did s t (obeyOf s k from)
 unfolding obeyOf
-did-obey s t k from f lo hi w = go (ltb from (s .leader)) refl
+did-obey s t k from f d lo hi w = go (ltb from (s .leader)) refl
   where
     answer : (q : State) → Change s t (following (inState s q) from) → (b : Bool)
         → Did s t (cond b (taken (following (inState s q) from) 6 (weightOf from)) (taken (following (inState s q) from) 0 0))
-    answer q c true = takes f c (to-one (acks lo hi))
+    answer q c true = takes f c (to-one (acks d lo hi))
     answer q c false = takes f c nothing
 
     heeds : (o : Order) → Lawful (s .state) o → s .leader ≤ from → Did s t (obeyed o s k from)
     heeds (To q) (goes m) l = answer q (turns s t f q from m (obeys l hi)) (eqb k 4 || eqb k 5)
     heeds Over over l = passes f (obeys l hi)
-    heeds Conflict conflict l = conflicts f
+    heeds Conflict conflict l = refuses (in-conflict f)
 
     go : (b : Bool) → ltb from (s .leader) ≡ b → Did s t (cond b (passed s) (obeyed (orderAt k (s .state)) s k from))
     go true e = passes f same
@@ -291,11 +298,11 @@ unfolding deliverOf
 did-deliver (start l) s e n r f = absurd (true≢false n)
 did-deliver (ends-yes {from} l) s e n r f = did-vote s (Deliver 2 from) from Yes f refl (other s (Deliver 2 from) f from r (omega arith))
 did-deliver (ends-no {from} l) s e n r f = did-vote s (Deliver 3 from) from No f refl (other s (Deliver 3 from) f from r (omega arith))
-did-deliver (move-p {from} l) s e n r f = did-obey s (Deliver 4 from) 4 from f (in-least s from r) (rw e l) (lawful-p (s .state))
-did-deliver (move-w {from} l) s e n r f = did-obey s (Deliver 5 from) 5 from f (in-least s from r) (rw e l) (lawful-w (s .state))
+did-deliver (move-p {from} l) s e n r f = did-obey s (Deliver 4 from) 4 from f another (in-least s from r) (rw e l) (lawful-p (s .state))
+did-deliver (move-w {from} l) s e n r f = did-obey s (Deliver 5 from) 5 from f another (in-least s from r) (rw e l) (lawful-w (s .state))
 did-deliver (ack {from} l) s e n r f = did-ack s (Deliver 6 from) from f refl (other s (Deliver 6 from) f from r (omega arith))
-did-deliver (commit {from} l) s e n r f = did-obey s (Deliver 7 from) 7 from f (in-least s from r) (rw e l) (lawful-commit (s .state))
-did-deliver (abort {from} l) s e n r f = did-obey s (Deliver 8 from) 8 from f (in-least s from r) (rw e l) (lawful-abort (s .state))
+did-deliver (commit {from} l) s e n r f = did-obey s (Deliver 7 from) 7 from f another (in-least s from r) (rw e l) (lawful-commit (s .state))
+did-deliver (abort {from} l) s e n r f = did-obey s (Deliver 8 from) 8 from f another (in-least s from r) (rw e l) (lawful-abort (s .state))
 
 did-notice : (s : Site) (o : ℕ) → Fit s (Notice o) → Did s (Notice o) (noticeOf s o)
 unfolding noticeOf
@@ -323,7 +330,7 @@ did-take-over s f = go (ltb (s .leader) (s .number) && subset (belowOf (s .numbe
     go : (b : Bool) → (ltb (s .leader) (s .number) && subset (belowOf (s .number)) (s .known)) ≡ b → Did s TakeOver (cond b (overIn (s .state) s) (refused s 5))
     go true e =
         at (s .state) refl (ltb-true (s .leader) (s .number) (and-l (ltb (s .leader) (s .number)) (subset (belowOf (s .number)) (s .known)) e)) (and-r (ltb (s .leader) (s .number)) (subset (belowOf (s .number)) (s .known)) e)
-    go false e = unallowed f
+    go false e = refuses (not-allowed f)
 
 did-conclude : (s : Site) → Fit s Conclude → Did s Conclude (concludeOf s)
 unfolding concludeOf tallyOf settleOf polls collects
@@ -335,7 +342,7 @@ did-conclude s f = go (polls s) refl
     tally : s .leader ≡ s .number → s .state ≡ W → (x y : Bool) → Did s Conclude (cond x (taken (inState s A) 8 (toAll s)) (cond y (taken (inState s P) 4 (toAll s)) (refused s 5)))
     tally l e true y = concludes A 8 l (rw e w-a) aborts
     tally l e false true = concludes P 4 l (rw e w-p) moves-p
-    tally l e false false = unallowed f
+    tally l e false false = refuses (not-allowed f)
 
     -- a leader that gathers acknowledgements stands in p or w
     stands : s .leader ≡ s .number → (x w : Bool) → isP (s .state) ≡ x → isW (s .state) ≡ w → (x || w && not (eqb (s .number) 1)) ≡ true → Did s Conclude (cond x (taken (inState s C) 7 (toAll s)) (taken (inState s A) 8 (toAll s)))
@@ -349,7 +356,7 @@ did-conclude s f = go (polls s) refl
         let c : (follows s && (isP (s .state) || isW (s .state) && not (eqb (s .number) 1))) ≡ true = and-l (collects s) (eqb (awaitedOf s) 0) e in
         stands (eqb-true (s .leader) (s .number) (and-l (follows s) (isP (s .state) || isW (s .state) && not (eqb (s .number) 1)) c)) (isP (s .state)) (isW (s .state)) refl refl
         (and-r (follows s) (isP (s .state) || isW (s .state) && not (eqb (s .number) 1)) c)
-    settle false e = unallowed f
+    settle false e = refuses (not-allowed f)
 
     go : (b : Bool) → polls s ≡ b → Did s Conclude (cond b (tallyOf s) (settleOf s))
     go true e =
@@ -378,15 +385,15 @@ did-rule s (Notice o) f = did-notice s o f
 did-rule s TakeOver f = did-take-over s f
 did-rule s Conclude f = did-conclude s f
 
--- every step of every record ends in one of the six ways
+-- every step of every record is refused with its ground, passed over, or taken
 pub did : (s : Site) (t : Step) → Did s t (doneOf s t)
 unfolding doneOf
 did s t = go (soundOf s) refl
   where
     rule : SoundSite s → (b : Bool) → namesOf s t ≡ b → Did s t (cond b (ruleOf s t) (refused s 2))
     rule g true e = did-rule s t (record { sound = g; names = e })
-    rule g false e = misnamed g e
+    rule g false e = refuses (wrong-names g e)
 
     go : (b : Bool) → soundOf s ≡ b → Did s t (cond b (cond (namesOf s t) (ruleOf s t) (refused s 2)) (refused s 1))
     go true e = rule (sound-parts s e) (namesOf s t) refl
-    go false e = unsound e
+    go false e = refuses (not-sound e)

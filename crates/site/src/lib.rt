@@ -462,7 +462,8 @@ impl Site {
         ensures { λ r. ⌜ r ≡ obeyOf self kind from ⌝ }
     {
         let state = self.state;
-        if from < self.leader {
+        let leader = self.leader;
+        if from < leader {
             return self.passed();
         }
         match order_at(kind, state) {

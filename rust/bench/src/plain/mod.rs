@@ -1,0 +1,12 @@
+//! A plain, fast implementation of the C interface.
+
+pub mod journal;
+pub mod judge;
+pub mod run;
+pub mod sheet;
+pub mod site;
+
+pub use journal::{record_read, record_write, rehearse, rehearse_testing};
+pub use judge::{sheet_judge, sheet_report};
+pub use run::{run_event, run_fresh};
+pub use site::site_step;

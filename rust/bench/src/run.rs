@@ -1,0 +1,69 @@
+//! Times events of runs.
+
+use crate::plain;
+use crate::race::{race, Race};
+use compare::inputs::runs::{any_run, Event, Events, RUN};
+use compare::inputs::Random;
+use compare::run::{happen, Runs};
+use std::hint::black_box;
+
+/// The plain implementation of runs.
+pub const PLAIN: Runs = Runs { fresh: plain::run_fresh, event: plain::run_event };
+
+type Call = (Vec<u8>, Event);
+
+/// Events on the way through runs of n sites from fresh, each with the run before it.
+fn in_runs_from_fresh(n: u8) -> Vec<Call> {
+    let mut random = Random::new(11);
+    let events = Events::new(20, 40);
+    let mut calls = Vec::new();
+    while calls.len() < 2048 {
+        let mut run = vec![0; RUN];
+        plain::run_fresh(n, &mut run);
+        for _ in 0..8 * n {
+            let event = events.next(&mut random, &run);
+            let after = happen(PLAIN, &run, event, 3).1;
+            calls.push((run, event));
+            run = after;
+        }
+    }
+    calls
+}
+
+/// Events in arbitrary runs, sound or not.
+fn in_arbitrary_runs() -> Vec<Call> {
+    let mut random = Random::new(12);
+    let events = Events::new(4, 8);
+    let mut call = || {
+        let run = any_run(&mut random);
+        let event = events.next(&mut random, &run);
+        (run, event)
+    };
+    (0..2048).map(|_| call()).collect()
+}
+
+/// Makes all calls, each on a copy of its run.
+fn make(program: Runs, calls: &[Call]) {
+    let happens = black_box(program.event);
+    let mut answer = [0; 3];
+    let mut run = [0; RUN];
+    for (before, [k, s, o, m, v, x]) in calls {
+        run.copy_from_slice(before);
+        black_box(happens(&mut run, *k, *s, *o, *m, *v, *x, &mut answer));
+        black_box((&run, &answer));
+    }
+}
+
+/// Events in small, middling and large runs from fresh, and in arbitrary ones.
+pub fn races(library: Runs) -> Vec<Race> {
+    let timed = |name, calls: Vec<Call>| {
+        let length = calls.len() as u32;
+        race(name, (1000, length), || make(library, &calls), || make(PLAIN, &calls))
+    };
+    vec![
+        timed("event, runs of 2 from fresh", in_runs_from_fresh(2)),
+        timed("event, runs of 5 from fresh", in_runs_from_fresh(5)),
+        timed("event, runs of 8 from fresh", in_runs_from_fresh(8)),
+        timed("event, arbitrary runs", in_arbitrary_runs()),
+    ]
+}

@@ -1,0 +1,12 @@
+//! Comparisons of two programs on the same bytes: the inputs and what is looked at.
+
+pub mod inputs;
+pub mod journal;
+pub mod program;
+pub mod run;
+pub mod sheet;
+pub mod site;
+pub mod tally;
+
+#[cfg(test)]
+mod figure_tests;

@@ -1,0 +1,99 @@
+//! Compares the proved library with the second program.
+
+use compare::tally::Tally;
+use std::process::ExitCode;
+
+const USAGE: &str = "usage: compare site [--count N]
+       compare run [--count N]
+       compare journal [--count N]
+       compare sheet [--count N]
+       compare program PATH rehearsal [--count N]
+       compare program PATH sheets [--count N]";
+
+/// The number after `--count`, or the one that is usual.
+fn count(arguments: &[String], usual: u64) -> Option<u64> {
+    match arguments {
+        [] => Some(usual),
+        [flag, number] if flag == "--count" => number.parse().ok(),
+        _ => None,
+    }
+}
+
+fn site(count: u64) -> Tally {
+    compare::site::compare(proved::site_step, second::bytes::site_step, count)
+}
+
+#[cfg(feature = "run")]
+fn run(count: u64) -> Tally {
+    use compare::run::{compare, Runs};
+    let library = Runs { fresh: proved::run_fresh, event: proved::run_event };
+    let second = Runs { fresh: second::run_bytes::run_fresh, event: second::run_bytes::run_event };
+    compare(library, second, count)
+}
+
+#[cfg(feature = "journal")]
+fn journal(count: u64) -> Tally {
+    use compare::journal::{compare, Journaling};
+    let library = Journaling {
+        read: proved::record_read,
+        write: proved::record_write,
+        rehearse: proved::rehearse,
+    };
+    let second = Journaling {
+        read: second::journal::record_read,
+        write: second::journal::record_write,
+        rehearse: second::rehearsal::rehearse_bytes,
+    };
+    compare(library, second, count)
+}
+
+#[cfg(feature = "sheet")]
+fn sheet(count: u64) -> Tally {
+    use compare::sheet::{compare, Judging};
+    let library = Judging { judge: proved::sheet_judge, report: proved::sheet_report };
+    let second =
+        Judging { judge: second::report::sheet_judge, report: second::report::sheet_report };
+    compare(library, second, count)
+}
+
+/// An executable's output with what the second program writes.
+fn program(path: &str, what: &str, rest: &[String]) -> Option<Tally> {
+    let tally = match what {
+        "rehearsal" => compare::program::rehearsal(path, count(rest, 3000)?),
+        "sheets" => compare::program::sheets(path, count(rest, 5000)?),
+        _ => return None,
+    };
+    Some(tally.unwrap_or_else(|error| panic!("{path} cannot be run: {error}")))
+}
+
+/// The comparison that the arguments ask for, or none where they ask for nothing known.
+fn compared(arguments: &[String]) -> Option<Tally> {
+    let (what, rest) = arguments.split_first()?;
+    Some(match what.as_str() {
+        "site" => site(count(rest, 1_000_000)?),
+        #[cfg(feature = "run")]
+        "run" => run(count(rest, 300_000)?),
+        #[cfg(feature = "journal")]
+        "journal" => journal(count(rest, 3000)?),
+        #[cfg(feature = "sheet")]
+        "sheet" => sheet(count(rest, 5000)?),
+        "program" => match rest {
+            [path, what, rest @ ..] => program(path, what, rest)?,
+            _ => return None,
+        },
+        _ => return None,
+    })
+}
+
+fn main() -> ExitCode {
+    let arguments: Vec<String> = std::env::args().skip(1).collect();
+    let Some(tally) = compared(&arguments) else {
+        eprintln!("{USAGE}");
+        return ExitCode::from(2);
+    };
+    if tally.finish() {
+        ExitCode::SUCCESS
+    } else {
+        ExitCode::FAILURE
+    }
+}
