@@ -1,0 +1,16 @@
+pub mod Run
+pub mod Sound
+pub mod Event
+pub mod After
+pub mod Fields
+pub mod Ground
+pub mod RunLists
+pub mod Views
+pub mod SoundLaws
+pub mod Happens
+pub mod RunSteps
+pub mod RunLaws
+pub mod Ordered
+pub mod GoodRuns
+pub mod Unordered
+pub mod FieldsLaws

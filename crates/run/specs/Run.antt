@@ -1,0 +1,97 @@
+-- A run (01, "The run"): its parts, what stands in them, and how one event's doings are put into it.
+-- Assumes nothing.
+use Prim.Native.Nat.{ℕ, zero, suc, _+_, _-_, _*_}
+use mathlib.Core.Bool.{Bool, true, false, cond, _&&_}
+use mathlib.Core.List.{List, [], _∷_, map}
+use lib.Dec.{eqb, leb}
+use lib.ListN.{getD, set, replicate}
+use Rattle.sets.specs.Sets.{isSite, has, weightOf, union, minus, without, withSite}
+use Rattle.site.specs.declared.State.{State}
+use Rattle.site.specs.declared.State.the-variants.{Q}
+use Rattle.site.specs.declared.Site.{Site}
+use Rattle.run.specs.declared.Run.{Run}
+
+-- ---- what a run holds
+
+-- what stands at a place that there is not
+abbrev pub noSite : Site
+noSite = record { n = 0; number = 0; state = Q; leader = 0; known = 0; yes = 0; no = 0; acked = 0 }
+
+-- the record of site i
+abbrev pub siteAt : Run → ℕ → Site
+siteAt r i = getD (r .sites) (i - 1) noSite
+
+-- a kind of message has one of nine rows, of which 01 uses eight
+unfoldable pub isKind : ℕ → Bool
+isKind k = leb 1 k && leb k 9
+
+-- where the receivers of the messages of kind k from site s stand; past the end for any other kind or sender
+unfoldable pub place : ℕ → ℕ → ℕ
+place k s = cond (isKind k && isSite s) (8 * (k - 1) + (s - 1)) 72
+
+-- the sites for which a message of kind k from s is outstanding
+abbrev pub receivers : List ℕ → ℕ → ℕ → ℕ
+receivers net k s = getD net (place k s) 0
+
+-- ---- views: what demand 3 and later rules speak of
+
+unfoldable pub stateOf : Run → ℕ → State
+stateOf r i = siteAt r i .state
+
+unfoldable pub leaderOf : Run → ℕ → ℕ
+leaderOf r i = siteAt r i .leader
+
+-- site i knows that j stopped
+unfoldable pub knows : Run → ℕ → ℕ → Bool
+knows r i j = has (siteAt r i .known) j
+
+-- a message of kind k from s to j is outstanding
+unfoldable pub outstanding : Run → ℕ → ℕ → ℕ → Bool
+outstanding r k s j = has (receivers (r .net) k s) j
+
+-- site i has stopped
+unfoldable pub hasStopped : Run → ℕ → Bool
+hasStopped r i = has (r .stopped) i
+
+-- ---- what an event may do to a run
+
+-- another record for site s
+abbrev pub withRecord : Run → ℕ → Site → Run
+withRecord r s x = record { n = r .n; stopped = r .stopped; sites = set (r .sites) (s - 1) x; net = r .net }
+
+-- another network
+abbrev pub withNet : Run → List ℕ → Run
+withNet r net = record { n = r .n; stopped = r .stopped; sites = r .sites; net = net }
+
+-- the message of kind k from a site to s is taken out of the network
+unfoldable pub takenOut : Run → ℕ → ℕ → ℕ → Run
+takenOut r k from s = withNet r (set (r .net) (place k from) (without (receivers (r .net) k from) s))
+
+-- site s writes messages of kind k to a set of sites: "a message to a stopped site doesn't enter the network"
+unfoldable pub sentBy : Run → ℕ → ℕ → ℕ → Run
+sentBy r k s to = withNet r (set (r .net) (place k s) (union (receivers (r .net) k s) (minus to (r .stopped))))
+
+-- site s stops: "a stop removes what is addressed to the site"
+unfoldable pub stoppedAt : Run → ℕ → Run
+stoppedAt r s =
+    record {
+      n = r .n;
+      stopped = withSite (r .stopped) s;
+      sites = r .sites;
+      net = map (λ (m : ℕ). without m s) (r .net);
+    }
+
+-- ---- "Fresh: all in q, following 1, all sets empty, no messages"
+
+abbrev pub freshSite : ℕ → ℕ → Site
+freshSite m i = record { n = m; number = i; state = Q; leader = 1; known = 0; yes = 0; no = 0; acked = 0 }
+
+-- places above n are filled like the others
+abbrev pub freshRun : ℕ → Run
+freshRun m =
+    record {
+      n = m;
+      stopped = 0;
+      sites = map (freshSite m) (1 ∷ 2 ∷ 3 ∷ 4 ∷ 5 ∷ 6 ∷ 7 ∷ 8 ∷ []);
+      net = replicate 72 0;
+    }
