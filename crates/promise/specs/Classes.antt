@@ -1,0 +1,265 @@
+-- States and kinds of message in classes: each class is a type that is empty outside it, so that what a class rules out computes away.
+-- Assumes nothing.
+use Prim.Native.Nat.{ℕ, _≤_, _<_}
+use mathlib.Core.Path.{_≡_}
+use Rattle.site.specs.declared.State.{State}
+use Rattle.site.specs.declared.State.the-variants.{Q, W, P, A, C}
+
+-- The kinds of message of 01.
+pub data Kind : Type 0 where
+  Start Yes No MoveP MoveW Ack Commit Abort : Kind
+
+-- One type for each state.
+abbrev pub byState : (q w p a c : Type 0) → State → Type 0
+byState q w p a c Q = q
+byState q w p a c W = w
+byState q w p a c P = p
+byState q w p a c A = a
+byState q w p a c C = c
+
+abbrev pub IsQ : State → Type 0
+IsQ s = byState Unit ⊥ ⊥ ⊥ ⊥ s
+
+abbrev pub IsW : State → Type 0
+IsW s = byState ⊥ Unit ⊥ ⊥ ⊥ s
+
+abbrev pub IsA : State → Type 0
+IsA s = byState ⊥ ⊥ ⊥ Unit ⊥ s
+
+abbrev pub IsC : State → Type 0
+IsC s = byState ⊥ ⊥ ⊥ ⊥ Unit s
+
+abbrev pub QW : State → Type 0
+QW s = byState Unit Unit ⊥ ⊥ ⊥ s
+
+abbrev pub WA : State → Type 0
+WA s = byState ⊥ Unit ⊥ Unit ⊥ s
+
+abbrev pub PC : State → Type 0
+PC s = byState ⊥ ⊥ Unit ⊥ Unit s
+
+abbrev pub QWA : State → Type 0
+QWA s = byState Unit Unit ⊥ Unit ⊥ s
+
+-- One type for each kind.
+abbrev pub byKind : (s y n p w k c a : Type 0) → Kind → Type 0
+byKind s y n p w k c a Start = s
+byKind s y n p w k c a Yes = y
+byKind s y n p w k c a No = n
+byKind s y n p w k c a MoveP = p
+byKind s y n p w k c a MoveW = w
+byKind s y n p w k c a Ack = k
+byKind s y n p w k c a Commit = c
+byKind s y n p w k c a Abort = a
+
+-- Orders are what a leader writes: Move-p, Move-w, Commit and Abort.
+abbrev pub Order : Kind → Type 0
+Order κ = byKind ⊥ ⊥ ⊥ Unit Unit ⊥ Unit Unit κ
+
+-- Orders that only a prepared site writes, and those that none does.
+abbrev pub Prepares : Kind → Type 0
+Prepares κ = byKind ⊥ ⊥ ⊥ Unit ⊥ ⊥ Unit ⊥ κ
+
+abbrev pub Yields : Kind → Type 0
+Yields κ = byKind ⊥ ⊥ ⊥ ⊥ Unit ⊥ ⊥ Unit κ
+
+abbrev pub IsYes : Kind → Type 0
+IsYes κ = byKind ⊥ Unit ⊥ ⊥ ⊥ ⊥ ⊥ ⊥ κ
+
+abbrev pub IsAck : Kind → Type 0
+IsAck κ = byKind ⊥ ⊥ ⊥ ⊥ ⊥ Unit ⊥ ⊥ κ
+
+-- Kinds whose writing goes with a vote for yes: Start at Begin yes, and Yes.
+abbrev pub Gives : Kind → Type 0
+Gives κ = byKind Unit Unit ⊥ ⊥ ⊥ ⊥ ⊥ ⊥ κ
+
+abbrev pub IsCommit : Kind → Type 0
+IsCommit κ = κ ≡ Commit
+
+abbrev pub IsAbort : Kind → Type 0
+IsAbort κ = κ ≡ Abort
+
+-- The state in which a leader writes an order; for the other kinds it has no meaning.
+abbrev pub atOrder : Kind → State
+atOrder Start = Q
+atOrder Yes = Q
+atOrder No = Q
+atOrder MoveP = P
+atOrder MoveW = W
+atOrder Ack = Q
+atOrder Commit = C
+atOrder Abort = A
+
+-- The states in which a running site may be whose order of a kind is outstanding.
+abbrev pub Stands : Kind → State → Type 0
+Stands κ s = byKind Unit Unit Unit (PC s) (WA s) Unit (IsC s) (IsA s) κ
+
+-- What leader k in the first state may rely on of a site that acknowledged, is in state s and follows l.
+abbrev pub Relies : State → ℕ → State → ℕ → Type 0
+Relies t k s l = byState Unit ((k ≤ l) × WA s) ((k ≤ l) × PC s) Unit Unit t
+
+-- Both classes of orders are orders; no order goes with a vote, and a Yes does.
+pub prepares-order : (κ : Kind) → Prepares κ → Order κ
+prepares-order Start x = x
+prepares-order Yes x = x
+prepares-order No x = x
+prepares-order MoveP x = x
+prepares-order MoveW x = tt
+prepares-order Ack x = x
+prepares-order Commit x = x
+prepares-order Abort x = tt
+
+pub yields-order : (κ : Kind) → Yields κ → Order κ
+yields-order Start x = x
+yields-order Yes x = x
+yields-order No x = x
+yields-order MoveP x = tt
+yields-order MoveW x = x
+yields-order Ack x = x
+yields-order Commit x = tt
+yields-order Abort x = x
+
+pub order-gives : (κ : Kind) → Order κ → Gives κ → ⊥
+order-gives Start x y = x
+order-gives Yes x y = x
+order-gives No x y = x
+order-gives MoveP x y = y
+order-gives MoveW x y = y
+order-gives Ack x y = x
+order-gives Commit x y = y
+order-gives Abort x y = y
+
+pub yes-gives : (κ : Kind) → IsYes κ → Gives κ
+yes-gives Start x = tt
+yes-gives Yes x = x
+yes-gives No x = x
+yes-gives MoveP x = x
+yes-gives MoveW x = x
+yes-gives Ack x = x
+yes-gives Commit x = x
+yes-gives Abort x = x
+
+-- Site k in state s is in its first phase: it may still prepare without an order.
+abbrev pub First : ℕ → State → Type 0
+First k s = (k ≡ 1) × QW s
+
+-- Site k in state s, following l, leads: it follows itself and is past its first phase.
+abbrev pub Leads : ℕ → State → ℕ → Type 0
+Leads k s l = (l ≡ k) × (First k s → ⊥)
+
+-- What a leader's state may become: it stays, gives up, or commits.
+pub data Onward : State → State → Type 0 where
+  stays : {s : State} → Onward s s
+  drops : Onward Q A
+  gives-up : Onward W A
+  commits : Onward P C
+
+pub onward-stands : {s t : State} → Onward s t → (κ : Kind) → Order κ → Stands κ s → Stands κ t
+onward-stands stays κ o x = x
+onward-stands drops MoveP o x = absurd x
+onward-stands drops MoveW o x = absurd x
+onward-stands drops Commit o x = absurd x
+onward-stands drops Abort o x = absurd x
+onward-stands drops Start o x = absurd o
+onward-stands drops Yes o x = absurd o
+onward-stands drops No o x = absurd o
+onward-stands drops Ack o x = absurd o
+onward-stands gives-up MoveP o x = absurd x
+onward-stands gives-up MoveW o x = tt
+onward-stands gives-up Commit o x = absurd x
+onward-stands gives-up Abort o x = absurd x
+onward-stands gives-up Start o x = absurd o
+onward-stands gives-up Yes o x = absurd o
+onward-stands gives-up No o x = absurd o
+onward-stands gives-up Ack o x = absurd o
+onward-stands commits MoveP o x = tt
+onward-stands commits MoveW o x = absurd x
+onward-stands commits Commit o x = absurd x
+onward-stands commits Abort o x = absurd x
+onward-stands commits Start o x = absurd o
+onward-stands commits Yes o x = absurd o
+onward-stands commits No o x = absurd o
+onward-stands commits Ack o x = absurd o
+
+pub onward-first : {s t : State} {k : ℕ} → Onward s t → First k t → First k s
+onward-first stays f = f
+onward-first drops f = absurd (f .1)
+onward-first gives-up f = absurd (f .1)
+onward-first commits f = absurd (f .1)
+
+pub onward-relies : {s t : State} → Onward s t → (u : State) (k l : ℕ) → Relies s k u l → Relies t k u l
+onward-relies stays u k l x = x
+onward-relies drops u k l x = tt
+onward-relies gives-up u k l x = tt
+onward-relies commits u k l x = tt
+
+-- Classes that exclude or contain one another.
+pub qw-not-a : (s : State) → QW s → IsA s → ⊥
+qw-not-a Q x y = y
+qw-not-a W x y = y
+qw-not-a P x y = y
+qw-not-a A x y = x
+qw-not-a C x y = y
+
+pub qwa-not-c : (s : State) → QWA s → IsC s → ⊥
+qwa-not-c Q x y = y
+qwa-not-c W x y = y
+qwa-not-c P x y = y
+qwa-not-c A x y = y
+qwa-not-c C x y = x
+
+pub pc-not-a : (s : State) → PC s → IsA s → ⊥
+pc-not-a Q x y = y
+pc-not-a W x y = y
+pc-not-a P x y = y
+pc-not-a A x y = x
+pc-not-a C x y = y
+
+pub pc-not-qw : (s : State) → PC s → QW s → ⊥
+pc-not-qw Q x y = x
+pc-not-qw W x y = x
+pc-not-qw P x y = y
+pc-not-qw A x y = y
+pc-not-qw C x y = y
+
+pub pc-not-wa : (s : State) → PC s → WA s → ⊥
+pc-not-wa Q x y = x
+pc-not-wa W x y = x
+pc-not-wa P x y = y
+pc-not-wa A x y = x
+pc-not-wa C x y = y
+
+pub q-in-qw : (s : State) → IsQ s → QW s
+q-in-qw Q x = tt
+q-in-qw W x = tt
+q-in-qw P x = x
+q-in-qw A x = x
+q-in-qw C x = x
+
+pub a-in-qwa : (s : State) → IsA s → QWA s
+a-in-qwa Q x = tt
+a-in-qwa W x = tt
+a-in-qwa P x = x
+a-in-qwa A x = tt
+a-in-qwa C x = x
+
+pub wa-in-qwa : (s : State) → WA s → QWA s
+wa-in-qwa Q x = tt
+wa-in-qwa W x = tt
+wa-in-qwa P x = x
+wa-in-qwa A x = tt
+wa-in-qwa C x = x
+
+pub c-in-pc : (s : State) → IsC s → PC s
+c-in-pc Q x = x
+c-in-pc W x = x
+c-in-pc P x = tt
+c-in-pc A x = x
+c-in-pc C x = tt
+
+pub rest-in-qwa : (s : State) → (PC s → ⊥) → QWA s
+rest-in-qwa Q x = tt
+rest-in-qwa W x = tt
+rest-in-qwa P x = x tt
+rest-in-qwa A x = tt
+rest-in-qwa C x = x tt

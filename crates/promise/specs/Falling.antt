@@ -1,0 +1,305 @@
+-- Every accepted event lowers the potential, so that only so many events are accepted.
+-- Assumes nothing.
+use Prim.Native.Nat.{ℕ, zero, suc, _+_, _-_, _*_, _/_, _^_, _≤_, _<_}
+use mathlib.Core.Bool.{Bool, true, false, cond, not, _&&_}
+use mathlib.Core.List.{List, [], _∷_}
+use mathlib.Core.Path.{_≡_, refl, sym, ap, subst, _∙_}
+use mathlib.Core.Logic.{_≢_, _⊎_, inl, inr, ⊎-elim}
+use native.Mathlib.Decide.{ℕ-discrete, decLt}
+use native.Mathlib.Omega.{arith}
+use lib.Dec.{eqb, leb, lit≤}
+use lib.ListN.{length, set, length-map}
+use borrow.Author.Tests.{eqb-false, leb-true, not-true}
+use Rattle.sets.specs.Sets.{has, both, minus, withSite, without}
+use Rattle.sets.specs.SetLaws.{Site, has-with, members}
+use Rattle.site.specs.declared.Outcome.{Outcome}
+use Rattle.site.specs.declared.Outcome.the-variants.{Taken, Passed, Refused}
+use Rattle.site.specs.declared.Step.{Step}
+use Rattle.site.specs.declared.Step.the-variants as step
+use Rattle.site.specs.declared.Site.{Site as Record}
+use Rattle.site.specs.declared.Done.{Done}
+use Rattle.site.specs.Site.{inRun, namesOf}
+use Rattle.site.specs.Step.{ruleOf}
+use Rattle.run.specs.declared.Run.{Run}
+use Rattle.run.specs.declared.Event.{Event}
+use Rattle.run.specs.declared.Event.the-variants.{Act, Stop, Cut}
+use Rattle.run.specs.declared.Ran.{Ran}
+use Rattle.run.specs.Run.{siteAt, outstanding, hasStopped, knows, takenOut, stoppedAt}
+use Rattle.run.specs.Event.{isThere, delivered, eventOf}
+use Rattle.run.specs.After.{Tale, acceptedBy, onward, told, opening, after}
+use Rattle.promise.specs.SetsMembers.{In, and-l, and-r, in-none, minus-in, both-l, in-with, with-in, in-with-new, not-not, is-not, in?}
+use Rattle.promise.specs.RunViews.{Shaped, recordOf, record-at, replaced, others, Runs, Out, stoppedNet, sentNet}
+use Rattle.promise.specs.RunSound.{Good, good}
+use Rattle.promise.specs.RunEvents.{Accepted, Allowed, Denied, Halted, Unhalted, decide, decide-stop}
+use Rattle.promise.specs.Classes.{Kind}
+use Rattle.promise.specs.View.{View, Inv}
+use Rattle.promise.specs.Does.{Uses}
+use Rattle.promise.specs.Seen.{number, viewOf, wholeRun, partRun}
+use Rattle.promise.specs.Stepping.{Stepped, weigh, worth, feeOf, in-run, Notices}
+use Rattle.promise.specs.Keeping.{Held, Now, With, delivered-net, delivered-len, sound, s8, K, seen, kinds, whole-run, part-run, keeps}
+use Rattle.promise.specs.Count.{members-above, members-only, members-none, members-some}
+use Rattle.promise.specs.Measure.{own, falls}
+use Rattle.promise.specs.Potential.{messages, messages-sent, messages-taken, messages-halted, messages-stopped, partOf, parts, part-runs, part-stopped, parts-at, pairs, pairs-le, pairs-learn, potential, potential-is, fresh-potential}
+use Rattle.promise.specs.Fresh.{nothing, fresh-held, fresh-is}
+
+-- what a delivery takes out of the network
+abbrev netWorth : Step → ℕ
+netWorth (step.Begin v) = 0
+netWorth (step.Start from v) = weigh 1
+netWorth (step.Deliver K from) = weigh K
+netWorth (step.Notice o) = 0
+netWorth step.TakeOver = 0
+netWorth step.Conclude = 0
+
+-- what a notice takes out of the pairs
+abbrev newsWorth : Step → ℕ
+newsWorth (step.Begin v) = 0
+newsWorth (step.Start from v) = 0
+newsWorth (step.Deliver K from) = 0
+newsWorth (step.Notice o) = 1
+newsWorth step.TakeOver = 0
+newsWorth step.Conclude = 0
+
+worth-split : (t : Step) → (worth t ≡ netWorth t + newsWorth t) × (newsWorth t ≤ 1)
+worth-split (step.Begin v) = (refl, omega arith)
+worth-split (step.Start from v) = (refl, omega arith)
+worth-split (step.Deliver K from) = (omega arith, omega arith)
+worth-split (step.Notice o) = (refl, omega arith)
+worth-split step.TakeOver = (refl, omega arith)
+worth-split step.Conclude = (refl, omega arith)
+
+module _ (r : Run) (len : length (r .net) ≡ 72) (s : ℕ) where
+  pub net-delivered : (t : Step) → isThere r s t ≡ true → messages (delivered r s t .net) + netWorth t ≤ messages (r .net)
+  unfolding outstanding takenOut
+  net-delivered (step.Begin v) m = omega arith
+  net-delivered (step.Start from v) m = messages-taken (r .net) len 1 from s m
+  net-delivered (step.Deliver K from) m = messages-taken (r .net) len K from s m
+  net-delivered (step.Notice o) m = omega arith
+  net-delivered step.TakeOver m = omega arith
+  net-delivered step.Conclude m = omega arith
+
+  pub net-halted : (t : Step) → isThere r s t ≡ true → messages (stoppedNet (r .net) s) + netWorth t ≤ messages (r .net)
+  unfolding outstanding
+  net-halted (step.Begin v) m = omega (arith, messages-stopped (r .net) s)
+  net-halted (step.Start from v) m = messages-halted (r .net) len 1 from s m
+  net-halted (step.Deliver K from) m = messages-halted (r .net) len K from s m
+  net-halted (step.Notice o) m = omega (arith, messages-stopped (r .net) s)
+  net-halted step.TakeOver m = omega (arith, messages-stopped (r .net) s)
+  net-halted step.Conclude m = omega (arith, messages-stopped (r .net) s)
+
+-- Site s of r stops: its part goes, and no pair rises.
+module _ (r : Run) (s : ℕ) (x : Runs r s) (n8 : r .n ≤ 8) (net : List ℕ) where
+  abbrev gone : Run
+  gone = record { n = r .n; stopped = withSite (r .stopped) s; sites = r .sites; net = net }
+
+  parts-gone : parts gone + (1 + own (r .n) s (recordOf (r .sites) s .state) (recordOf (r .sites) s .leader)) ≡ parts r
+  parts-gone =
+      omega (
+        arith,
+        parts-at r gone s refl (x .least) (x .most) (λ i ne. (same i ne, refl)),
+        part-runs (r .stopped) (r .n) (recordOf (r .sites) s) s (x .up),
+        part-stopped (withSite (r .stopped) s) (r .n) (recordOf (r .sites) s) s (in-with-new (r .stopped) s s (record { least = x .least; most = omega (arith, x .most) }) refl),
+      )
+    where
+      same : (i : ℕ) → i ≢ s → has (withSite (r .stopped) s) i ≡ has (r .stopped) i
+      same i ne = go (has (r .stopped) i) (has (withSite (r .stopped) s) i) (in-with (r .stopped) s i) (λ h. ⊎-elim (λ y. y) (λ e. absurd (ne e)) (with-in (r .stopped) s i h))
+        where
+          go : (a b : Bool) → (a ≡ true → b ≡ true) → (b ≡ true → a ≡ true) → b ≡ a
+          go true b f g = f refl
+          go false true f g = sym (g refl)
+          go false false f g = refl
+
+  pairs-gone : pairs gone ≤ pairs r
+  pairs-gone = pairs-le r gone refl (in-with (r .stopped) s) (λ i j y. y)
+
+-- Site s takes a step.
+module _ (w : ℕ → Type 0) (r : Run) (h : Held w r) (s : ℕ) (t : Step) (al : Allowed r s t) where
+  abbrev z : Record
+  z = siteAt r s
+
+  abbrev d : Done
+  d = ruleOf z t
+
+  abbrev y : Stepped w r (sound w r h s t al) (h .inv) s (al .runs) t d
+  y = seen w r h s t al
+
+  here : recordOf (r .sites) s ≡ z
+  here = record-at r s (al .runs .least)
+
+  s-in : s ≤ length (r .sites)
+  s-in = omega (arith, h .shape .sites, s8 w r h s t al)
+
+  -- what a running site may still do, before
+  abbrev before : ℕ
+  before = own (r .n) s (recordOf (r .sites) s .state) (recordOf (r .sites) s .leader)
+
+  -- messages to a part m of the sites that the step writes to
+  module _ (m : ℕ) (sub : (i : ℕ) → In m i → In (d .to) i) where
+    weight : weigh (K w r h s t al) * members m 8 ≡ weigh (number (y .κ)) * members m 8
+    weight = go (members-some m 8)
+      where
+        go : (members m 8 ≡ 0) ⊎ ((i : ℕ) × In m i) → weigh (K w r h s t al) * members m 8 ≡ weigh (number (y .κ)) * members m 8
+        go (inl e) = rw e (zero-times (weigh (K w r h s t al)) (weigh (number (y .κ))))
+          where
+            zero-times : (a b : ℕ) → a * 0 ≡ b * 0
+            zero-times a b = omega arith
+        go (inr x) = ap (λ (k : ℕ). weigh k * members m 8) (kinds w r h s t al (x .0) (sub (x .0) (x .1)))
+
+    lowers : own (r .n) s (d .site .state) (d .site .leader) + weigh (K w r h s t al) * members m 8 + 1 ≤ before + worth t
+    lowers =
+        omega (
+          arith,
+          weight,
+          y .spends .fee,
+          falls (viewOf w r) s (λ i. In (d .to) i) (h .inv) (al .runs .least) (r .n) (members m 8)
+              (λ f. members-above m s (r .n) 8 (λ i x. (f i (sub i x), y .within i (sub i x)))) (λ k f. members-only m k 8 (λ i x. f i (sub i x))) (λ f. members-none m 8 (λ i x. f i (sub i x))) (y .act),
+        )
+
+  -- ---- whole
+
+  abbrev q : Run
+  q = wholeRun r (delivered r s t .net) s (d .site) (K w r h s t al) (minus (d .to) (r .stopped))
+
+  new : recordOf (q .sites) s ≡ d .site
+  new = replaced (r .sites) s (d .site) (al .runs .least) s-in
+
+  still : (i : ℕ) → i ≢ s → recordOf (q .sites) i ≡ recordOf (r .sites) i
+  still = others (r .sites) s (d .site) (al .runs .least)
+
+  parts-whole : parts q + (1 + before) ≡ parts r + (1 + own (r .n) s (d .site .state) (d .site .leader))
+  parts-whole =
+      omega (
+        arith,
+        parts-at r q s refl (al .runs .least) (al .runs .most) (λ i ne. (refl, still i ne)),
+        part-runs (r .stopped) (r .n) (recordOf (r .sites) s) s (al .runs .up),
+        ap (λ (a : Record). partOf (r .stopped) (r .n) a s) new,
+        part-runs (r .stopped) (r .n) (d .site) s (al .runs .up),
+      )
+
+  more : (i k : ℕ) → In (recordOf (r .sites) i .known) k → In (recordOf (q .sites) i .known) k
+  more i k x = go (ℕ-discrete i s)
+    where
+      go : Dec (i ≡ s) → In (recordOf (q .sites) i .known) k
+      go (no ne) = subst (λ (a : Record). In (a .known) k) (sym (still i ne)) x
+      go (yes e) = subst (λ (i : ℕ). In (recordOf (q .sites) i .known) k) (sym e) (subst (λ (a : Record). In (a .known) k) (sym new) (y .holds .knows k (subst (λ (a : Record). In (a .known) k) here (rw e at x))))
+
+  -- a notice is news
+  news : (u : Step) → u ≡ t → pairs q + newsWorth u ≤ pairs r
+  news (step.Begin v) e = omega (arith, pairs-le r q refl (λ i x. x) more)
+  news (step.Start from v) e = omega (arith, pairs-le r q refl (λ i x. x) more)
+  news (step.Deliver k from) e = omega (arith, pairs-le r q refl (λ i x. x) more)
+  news step.TakeOver e = omega (arith, pairs-le r q refl (λ i x. x) more)
+  news step.Conclude e = omega (arith, pairs-le r q refl (λ i x. x) more)
+  news (step.Notice o) e =
+      pairs-learn r q refl (λ i x. x) more s o (al .runs .least) (al .runs .most) (noticed .0) (noticed .1) other (al .runs .up) (and-l (has (r .stopped) o) (not (has (z .known) o)) there)
+      (ap (λ (a : Record). has (a .known) o) here ∙ not-true (has (z .known) o) (and-r (has (r .stopped) o) (not (has (z .known) o)) there))
+      (ap (λ (a : Record). has (a .known) o) new ∙ y .spends .learns o (subst (λ (u : Step). Notices u o) e refl))
+    where
+      names : (inRun z o && not (eqb o (z .number))) ≡ true
+      names = subst (λ (u : Step). namesOf z u ≡ true) (sym e) (al .names)
+
+      there : (has (r .stopped) o && not (has (z .known) o)) ≡ true
+      there = unfold hasStopped knows in subst (λ (u : Step). isThere r s u ≡ true) (sym e) (al .there)
+
+      noticed : (1 ≤ o) × (o ≤ r .n)
+      noticed =
+          let i = in-run z o (and-l (inRun z o) (not (eqb o (z .number))) names) in
+          (i .0, rw (sound w r h s t al .sites s (al .runs .least) (al .runs .most)) at (i .1))
+
+      other : o ≢ s
+      other f = eqb-false o (z .number) (not-true (eqb o (z .number)) (and-r (inRun z o) (not (eqb o (z .number))) names)) (f ∙ sym (sound w r h s t al .number s (al .runs .least) (al .runs .most)))
+
+  pub whole-falls : potential (eventOf r (Act s t) .run) + 1 ≤ potential r
+  whole-falls =
+      rw (whole-run w r h s t al)
+      (omega (
+        arith,
+        potential-is q,
+        potential-is r,
+        messages-sent (delivered r s t .net) (delivered-len r s t (h .shape)) (K w r h s t al) s (minus (d .to) (r .stopped)),
+        net-delivered r (h .shape .net) s t (al .there),
+        parts-whole,
+        news t refl,
+        worth-split t,
+        lowers (minus (d .to) (r .stopped)) (minus-in (d .to) (r .stopped)),
+      ))
+
+  -- ---- cut short
+
+  pub part-falls : (x : ℕ) → potential (eventOf r (Cut s t x) .run) + 1 ≤ potential r
+  part-falls x =
+      rw (part-run w r h s t al x)
+      (omega (
+        arith,
+        potential-is (partRun r s (K w r h s t al) (minus (both (d .to) x) (withSite (r .stopped) s))),
+        potential-is r,
+        messages-sent (stoppedNet (r .net) s) (length-map (r .net) _ ∙ h .shape .net) (K w r h s t al) s (minus (both (d .to) x) (withSite (r .stopped) s)),
+        net-halted r (h .shape .net) s t (al .there),
+        parts-gone r s (al .runs) (sound w r h s t al .most) (sentNet (stoppedNet (r .net) s) (K w r h s t al) s (minus (both (d .to) x) (withSite (r .stopped) s))),
+        pairs-gone r s (al .runs) (sound w r h s t al .most) (sentNet (stoppedNet (r .net) s) (K w r h s t al) s (minus (both (d .to) x) (withSite (r .stopped) s))),
+        worth-split t,
+        lowers (minus (both (d .to) x) (withSite (r .stopped) s)) (λ i y. both-l (d .to) x i (minus-in (both (d .to) x) (withSite (r .stopped) s) i y)),
+      ))
+
+-- ---- every event
+
+accepted-one : (o : Outcome) → acceptedBy o ≤ 1
+accepted-one Taken = omega arith
+accepted-one Passed = omega arith
+accepted-one (Refused g) = omega arith
+
+module _ (w : ℕ → Type 0) (r : Run) (h : Held w r) where
+  -- an accepted event counts 1, and the potential falls by as much
+  pub event-falls : (e : Event) → acceptedBy (eventOf r e .outcome) + potential (eventOf r e .run) ≤ potential r
+  event-falls (Act s t) =
+      ⊎-elim (λ al. omega (arith, accepted-one (eventOf r (Act s t) .outcome), whole-falls w r h s t al)) (λ (n : Denied r s t). rw (n .whole) (omega arith)) (decide r s t)
+  event-falls (Cut s t x) =
+      ⊎-elim (λ al. omega (arith, accepted-one (eventOf r (Cut s t x) .outcome), part-falls w r h s t al x)) (λ (n : Denied r s t). rw (n .part x) (omega arith)) (decide r s t)
+  event-falls (Stop s) = ⊎-elim halted (λ (n : Unhalted r s). rw (n .done) (omega arith)) (decide-stop r s)
+    where
+      halted : Halted r s → acceptedBy (eventOf r (Stop s) .outcome) + potential (eventOf r (Stop s) .run) ≤ potential r
+      halted n = rw (n .done) (unfold stoppedAt in lower)
+        where
+          most : r .n ≤ 8
+          most = good r (n .sound) .most
+
+          lower : 1 + potential (gone r s (n .runs) most (stoppedNet (r .net) s)) ≤ potential r
+          lower =
+              omega (
+                arith,
+                potential-is (gone r s (n .runs) most (stoppedNet (r .net) s)),
+                potential-is r,
+                messages-stopped (r .net) s,
+                parts-gone r s (n .runs) most (stoppedNet (r .net) s),
+                pairs-gone r s (n .runs) most (stoppedNet (r .net) s),
+              )
+
+pub told-falls : (w : ℕ → Type 0) (t : Tale) (es : List Event) → Held w (t .run) → told t es .accepted + potential (told t es .run) ≤ t .accepted + potential (t .run)
+unfolding onward
+told-falls w t [] h = omega arith
+told-falls w t (e ∷ es) h = omega (arith, told-falls (With w (Now (t .run) e)) (onward t e) es (keeps w (t .run) h e), event-falls w (t .run) h e)
+
+-- ---- from fresh
+
+-- the bound of demand 3 is no lower than the potential of a fresh run
+pub within-bound : (n : ℕ) → 2 ≤ n → n ≤ 8 → 2 * n ^ 2 + 3 * n - 1 ≤ 5 * (n - 1) + 3 * (n - 1) * (n - 2) / 2 + (n + 1) ^ 2
+within-bound zero p q = absurd (omega arith)
+within-bound (suc zero) p q = absurd (omega arith)
+within-bound (suc (suc zero)) p q = lit≤ tt
+within-bound (suc (suc (suc zero))) p q = lit≤ tt
+within-bound (suc (suc (suc (suc zero)))) p q = lit≤ tt
+within-bound (suc (suc (suc (suc (suc zero))))) p q = lit≤ tt
+within-bound (suc (suc (suc (suc (suc (suc zero)))))) p q = lit≤ tt
+within-bound (suc (suc (suc (suc (suc (suc (suc zero))))))) p q = lit≤ tt
+within-bound (suc (suc (suc (suc (suc (suc (suc (suc zero)))))))) p q = lit≤ tt
+within-bound (suc (suc (suc (suc (suc (suc (suc (suc (suc n))))))))) p q = absurd (omega arith)
+
+pub accepted-bound : (n : ℕ) → 2 ≤ n → n ≤ 8 → (es : List Event) → after n es .accepted ≤ 2 * n ^ 2 + 3 * n - 1
+unfolding after opening
+accepted-bound n p q es =
+    omega (
+      arith,
+      told-falls nothing (opening n) es (subst (Held nothing) (sym (fresh-is n p q)) (fresh-held n)),
+      ap potential (fresh-is n p q),
+      fresh-potential n p q,
+    )

@@ -1,0 +1,234 @@
+-- The changes of one site that the rules make, each fit for the invariant.
+-- Assumes nothing.
+use Prim.Native.Nat.{ℕ, _≤_, _<_}
+use mathlib.Core.Path.{_≡_, refl, sym, subst}
+use mathlib.Core.Logic.{_≢_, _⊎_, inl, inr, ⊎-elim}
+use native.Mathlib.Decide.{ℕ-discrete, decLt}
+use native.Mathlib.Omega.{arith}
+use Rattle.site.specs.declared.State.{State}
+use Rattle.site.specs.declared.State.the-variants.{Q, W, P, A, C}
+use Rattle.promise.specs.Classes.{Kind, Start, Yes, No, MoveP, MoveW, Ack, Commit, Abort, byState, IsQ, IsW, IsA, IsC, QW, WA, PC, QWA, Order, Prepares, Yields, IsCommit, IsAbort, atOrder, Stands, Relies, First, Leads, Onward, stays, drops, gives-up, commits, qw-not-a, qwa-not-c, pc-not-a, pc-not-qw, pc-not-wa, q-in-qw, wa-in-qwa, c-in-pc, rest-in-qwa}
+use Rattle.promise.specs.View.{View, Evidence, seen, told, EP, EA, EC, Open, Lead, Lowest, Mute, MayPrepare, MayAbort, MayCommit, nobody, Inv}
+use Rattle.promise.specs.Less.{Votes}
+use Rattle.promise.specs.Become.{Fits}
+
+-- Where nobody is exempt, j may be.
+module _ (a : View) (j : ℕ) where
+  abbrev pub self : ℕ → Type 0
+  self i = i ≡ j
+
+  pub ease-prepare : MayPrepare a nobody → MayPrepare a self
+  ease-prepare p = record { all = p .all; shut = λ i o. absurd (p .shut i o) }
+
+  pub ease-abort : MayAbort a nobody → MayAbort a self
+  ease-abort p =
+      record {
+        none = p .none;
+        deaf = p .deaf;
+        apart = p .apart;
+        barred = λ i o. ⊎-elim (λ e. absurd e) (λ u. inr (record { site = u .site; silent = u .silent; past = λ r q. absurd (u .past r q) })) (p .barred i o);
+      }
+
+pub c-is-p : (a : View) → EC a → EP a
+c-is-p a (seen i x) = seen i (c-in-pc (a .st i) x)
+c-is-p a (told κ k j c x) = told κ k j (rw c tt) x
+
+-- Where nothing was prepared, an abort of j is safe if it bars what is open.
+pub unprepared : (a : View) (j : ℕ) → (EP a → ⊥) → ((i : ℕ) → Open a i → (i ≡ j) ⊎ Mute a (λ i. i ≡ j)) → MayAbort a (λ i. i ≡ j)
+unprepared a j h b =
+    record {
+      none = λ i _. rest-in-qwa (a .st i) (λ p. h (seen i p));
+      deaf = λ k i m _. absurd (h (told MoveP k i tt m));
+      apart = λ e. h (c-is-p a e);
+      barred = b;
+    }
+
+-- Site j runs and changes to a state of some class, following l.
+module _ (a : View) (j l : ℕ) (w : ℕ → Type 0) (v : Inv a) (r : a .runs j) (g : Votes a j w) (rise : a .ld j ≤ l) (own : l ≤ j) where
+  same-relies : (t : State) (k : ℕ) → Relies t k (a .st j) (a .ld j) → Relies t k (a .st j) l
+  same-relies Q k h = tt
+  same-relies W k h = (omega (arith, h .0), h .1)
+  same-relies P k h = (omega (arith, h .0), h .1)
+  same-relies A k h = tt
+  same-relies C k h = tt
+
+  -- the state stays
+  pub fits-same : (w j → a .voted j) → Fits a j (a .st j) l w
+  fits-same quiet =
+      record {
+        run = r;
+        votes = g;
+        rise = rise;
+        own = own;
+        left = λ q. q;
+        unvoted = λ q x. v .unvoted j r q (quiet x);
+        first = λ f. f;
+        waiting = λ f q. g .old j (v .waiting j (r, f) q);
+        lead = λ _. stays;
+        relied = λ k _ _ _. same-relies (a .st k) k;
+        prepared = λ p. ease-prepare a j (v .prepared (seen j p));
+        aborted = λ e. ease-abort a j (v .aborted (seen j e));
+        silent = λ _. quiet;
+        committed = λ c. v .committed (seen j c);
+        beside-a = λ e. v .aborted e .none j r;
+        beside-c = λ e. v .committed e .each j r;
+      }
+
+  -- to a
+  onward-a : (s : State) → QWA s → Onward s A
+  onward-a Q x = drops
+  onward-a W x = gives-up
+  onward-a P x = absurd x
+  onward-a A x = stays
+  onward-a C x = absurd x
+
+  relies-a : (t : State) (k : ℕ) → QWA (a .st j) → Relies t k (a .st j) (a .ld j) → Relies t k A l
+  relies-a Q k q h = tt
+  relies-a W k q h = (omega (arith, h .0), tt)
+  relies-a P k q h = absurd (apart (a .st j) q (h .1))
+    where
+      apart : (s : State) → QWA s → PC s → ⊥
+      apart Q x y = y
+      apart W x y = y
+      apart P x y = x
+      apart A x y = y
+      apart C x y = x
+  relies-a A k q h = tt
+  relies-a C k q h = tt
+
+  pub fits-a : QWA (a .st j) → MayAbort a (λ i. i ≡ j) → (w j → a .voted j) → Fits a j A l w
+  fits-a q o quiet =
+      record {
+        run = r;
+        votes = g;
+        rise = rise;
+        own = own;
+        left = λ e. absurd e;
+        unvoted = λ e. absurd e;
+        first = λ f. absurd (f .1);
+        waiting = λ f. absurd (f .1);
+        lead = λ _. onward-a (a .st j) q;
+        relied = λ k _ _ _. relies-a (a .st k) k q;
+        prepared = λ e. absurd e;
+        aborted = λ _. o;
+        silent = λ _. quiet;
+        committed = λ e. absurd e;
+        beside-a = λ _. tt;
+        beside-c = λ e. o .apart e;
+      }
+
+  -- to c
+  onward-c : (s : State) → PC s → Onward s C
+  onward-c Q x = absurd x
+  onward-c W x = absurd x
+  onward-c P x = commits
+  onward-c A x = absurd x
+  onward-c C x = stays
+
+  relies-c : (t : State) (k : ℕ) → PC (a .st j) → Relies t k (a .st j) (a .ld j) → Relies t k C l
+  relies-c Q k q h = tt
+  relies-c W k q h = absurd (pc-not-wa (a .st j) q (h .1))
+  relies-c P k q h = (omega (arith, h .0), tt)
+  relies-c A k q h = tt
+  relies-c C k q h = tt
+
+  pub fits-c : PC (a .st j) → MayCommit a → Fits a j C l w
+  fits-c q o =
+      record {
+        run = r;
+        votes = g;
+        rise = rise;
+        own = own;
+        left = λ e. absurd e;
+        unvoted = λ e. absurd e;
+        first = λ f. absurd (f .1);
+        waiting = λ f. absurd (f .1);
+        lead = λ _. onward-c (a .st j) q;
+        relied = λ k _ _ _. relies-c (a .st k) k q;
+        prepared = λ _. ease-prepare a j (v .prepared (seen j q));
+        aborted = λ e. absurd e;
+        silent = λ e. absurd e;
+        committed = λ _. o;
+        beside-a = λ e. absurd (o .apart e);
+        beside-c = λ _. tt;
+      }
+
+  -- to w, at a site that does not lead
+  pub fits-w : (First j W → First j (a .st j)) → (First j W → w j) → (Lead a j → ⊥) → (EC a → ⊥)
+      → ((k : ℕ) → k ≢ j → a .runs k → a .live Ack j k → Relies (a .st k) k (a .st j) (a .ld j) → Relies (a .st k) k W l) → Fits a j W l w
+  fits-w first waiting idle nc relied =
+      record {
+        run = r;
+        votes = g;
+        rise = rise;
+        own = own;
+        left = λ e. absurd e;
+        unvoted = λ e. absurd e;
+        first = first;
+        waiting = λ f _. waiting f;
+        lead = λ h. absurd (idle h);
+        relied = relied;
+        prepared = λ e. absurd e;
+        aborted = λ e. absurd e;
+        silent = λ e. absurd e;
+        committed = λ e. absurd e;
+        beside-a = λ _. tt;
+        beside-c = λ e. absurd (nc e);
+      }
+
+  -- to p, at a site that does not lead
+  pub fits-p : (Lead a j → ⊥) → MayPrepare a (λ i. i ≡ j) → (EA a → ⊥)
+      → ((k : ℕ) → k ≢ j → a .runs k → a .live Ack j k → Relies (a .st k) k (a .st j) (a .ld j) → Relies (a .st k) k P l) → Fits a j P l w
+  fits-p idle p na relied =
+      record {
+        run = r;
+        votes = g;
+        rise = rise;
+        own = own;
+        left = λ e. absurd e;
+        unvoted = λ e. absurd e;
+        first = λ f. absurd (f .1);
+        waiting = λ f. absurd (f .1);
+        lead = λ h. absurd (idle h);
+        relied = relied;
+        prepared = λ _. p;
+        aborted = λ e. absurd e;
+        silent = λ e. absurd e;
+        committed = λ e. absurd e;
+        beside-a = λ e. absurd (na e);
+        beside-c = λ _. tt;
+      }
+
+  -- in q a site acknowledged nobody that waits for p
+  pub relies-q : (t : State) (k : ℕ) → IsQ (a .st j) → Relies t k (a .st j) (a .ld j) → Relies t k W l
+  relies-q Q k q h = tt
+  relies-q W k q h = (omega (arith, h .0), tt)
+  relies-q P k q h = absurd (pc-not-qw (a .st j) (h .1) (q-in-qw (a .st j) q))
+  relies-q A k q h = tt
+  relies-q C k q h = tt
+
+-- An order of k that j obeys: a running site i that j follows, or that is below it, is k, and stands as the order says.
+module _ (a : View) (k j : ℕ) (v : Inv a) (rise : a .ld j ≤ k) where
+  pub obeyed : (κ : Kind) → Order κ → a .live κ k j → (i : ℕ) → i ≤ a .ld j → a .runs i → Stands κ (a .st i)
+  obeyed κ o m i h x = go (decLt i k)
+    where
+      go : Dec (i < k) → Stands κ (a .st i)
+      go (yes q) = absurd (v .lowest κ k j o m i q x)
+      go (no q) = subst (λ (i : ℕ). Stands κ (a .st i)) e (v .orders κ k j o m (rw e x) .1)
+        where
+          e : k ≡ i
+          e = omega arith
+
+  pub obey-p : a .live MoveP k j → (t : State) (i : ℕ) → a .st i ≡ t → a .runs i → Relies t i (a .st j) (a .ld j) → Relies t i P k
+  obey-p m Q i e x h = tt
+  obey-p m W i e x h = absurd (rw e at (obeyed MoveP tt m i (h .0) x))
+  obey-p m P i e x h = (omega (arith, h .0), tt)
+  obey-p m A i e x h = tt
+  obey-p m C i e x h = tt
+
+  pub obey-w : a .live MoveW k j → (t : State) (i : ℕ) → a .st i ≡ t → a .runs i → Relies t i (a .st j) (a .ld j) → Relies t i W k
+  obey-w m Q i e x h = tt
+  obey-w m W i e x h = (omega (arith, h .0), tt)
+  obey-w m P i e x h = absurd (rw e at (obeyed MoveW tt m i (h .0) x))
+  obey-w m A i e x h = tt
+  obey-w m C i e x h = tt

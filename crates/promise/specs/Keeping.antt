@@ -1,0 +1,325 @@
+-- Every event of a run keeps the invariant.
+-- Assumes nothing.
+use Prim.Native.Nat.{ℕ, zero, suc, _+_, _-_, _*_, _≤_, _<_}
+use mathlib.Core.Bool.{Bool, true, false, cond}
+use mathlib.Core.List.{List, [], _∷_}
+use mathlib.Core.Path.{_≡_, refl, sym, ap, subst, _∙_}
+use mathlib.Core.Logic.{_≢_, _⊎_, inl, inr, ⊎-elim}
+use native.Mathlib.Decide.{ℕ-discrete}
+use native.Mathlib.Omega.{arith}
+use lib.Dec.{eqb}
+use lib.ListN.{length, set, length-set, length-map}
+use borrow.Author.Tests.{eqb-true, ne-eqb}
+use Rattle.sets.specs.Sets.{has, both, minus, withSite}
+use Rattle.site.specs.declared.Vote.the-variants as vote
+use Rattle.site.specs.declared.Outcome.{Outcome}
+use Rattle.site.specs.declared.Outcome.the-variants.{Taken, Passed, Refused}
+use Rattle.site.specs.declared.Step.{Step}
+use Rattle.site.specs.declared.Step.the-variants as step
+use Rattle.site.specs.declared.Site.{Site as Record}
+use Rattle.site.specs.declared.Done.{Done}
+use Rattle.site.specs.Site.{soundOf, namesOf}
+use Rattle.site.specs.Step.{ruleOf, doneOf, answered, stepOf}
+use Rattle.run.specs.declared.Run.{Run}
+use Rattle.run.specs.declared.Event.{Event}
+use Rattle.run.specs.declared.Event.the-variants.{Act, Stop, Cut}
+use Rattle.run.specs.declared.Ran.{Ran}
+use Rattle.run.specs.Run.{siteAt, withRecord, withNet, takenOut, sentBy, stoppedAt}
+use Rattle.run.specs.Sound.{soundRun}
+use Rattle.run.specs.Event.{refusedRun, isThere, delivered, acted, cutShort, eventOf}
+use Rattle.promise.specs.SetsMembers.{In, in-none, minus-in, both-l, both-r}
+use Rattle.promise.specs.RunViews.{Shaped, recordOf, replaced, others, Runs, Out, taken-less}
+use Rattle.promise.specs.RunSound.{Good, good}
+use Rattle.promise.specs.RunEvents.{Accepted, Allowed, Denied, Halted, Unhalted, decide, decide-stop}
+use Rattle.promise.specs.Classes.{Kind, Order, IsYes, Gives, IsQ, order-gives, yes-gives}
+use Rattle.promise.specs.View.{View, Inv}
+use Rattle.promise.specs.Less.{Less, less, Votes, stop, stop-inv}
+use Rattle.promise.specs.Become.{become}
+use Rattle.promise.specs.Send.{send}
+use Rattle.promise.specs.Safety.{whole, cut, Final, settled}
+use Rattle.promise.specs.Seen.{number, Recorded, viewOf, wholeRun, wholly-less, stopped-view, partRun, partly-less}
+use Rattle.promise.specs.Stepping.{Delivers, Voices, Starts, Sure, Stepped, steps}
+use Rattle.promise.specs.Words.{Voted, begins, answers, leaves, later}
+
+-- What runs from fresh have: the lists' lengths, and the invariant of safety.
+pub record Held (w : ℕ → Type 0) (r : Run) : Type 0 where
+  pub shape : Shaped r
+  pub inv : Inv (viewOf w r)
+
+-- ---- votes of one event
+
+pub some : {r : Run} {es : List Event} {j : ℕ} → Voted r es j → length es ≡ 0 → ⊥
+some (begins h) z = omega arith
+some (answers h) z = omega arith
+some (leaves h x) z = omega arith
+some (later h) z = omega arith
+
+-- the event e gives the vote of j
+abbrev pub Now : Run → Event → ℕ → Type 0
+Now r e j = Voted r (e ∷ []) j
+
+spoken : {r : Run} {s : ℕ} {t : Step} {j : ℕ} → Now r (Act s t) j → (j ≡ s) × Voices t × (eventOf r (Act s t) .outcome ≡ Taken)
+spoken (begins h) = (refl, tt, h)
+spoken (answers h) = (refl, tt, h)
+spoken (later h) = absurd (some h refl)
+
+spoken-cut : {r : Run} {s x : ℕ} {t : Step} {j : ℕ} → Now r (Cut s t x) j → (j ≡ s) × Voices t × (eventOf r (Act s t) .outcome ≡ Taken)
+spoken-cut (leaves h y) = (refl, tt, h)
+spoken-cut (later h) = absurd (some h refl)
+
+speaks : (r : Run) (s : ℕ) (t : Step) → Voices t → eventOf r (Act s t) .outcome ≡ Taken → Now r (Act s t) s
+speaks r s (step.Begin vote.Yes) v h = begins h
+speaks r s (step.Start k vote.Yes) v h = answers h
+speaks r s (step.Begin vote.No) v h = absurd v
+speaks r s (step.Start k vote.No) v h = absurd v
+speaks r s (step.Deliver k i) v h = absurd v
+speaks r s (step.Notice o) v h = absurd v
+speaks r s step.TakeOver v h = absurd v
+speaks r s step.Conclude v h = absurd v
+
+speaks-cut : (r : Run) (s : ℕ) (t : Step) (x : ℕ) → Voices t → Starts t → eventOf r (Act s t) .outcome ≡ Taken → has x 1 ≡ true → Now r (Cut s t x) s
+speaks-cut r s (step.Start k vote.Yes) x v o h e = leaves h e
+speaks-cut r s (step.Start k vote.No) x v o h e = absurd v
+speaks-cut r s (step.Begin u) x v o h e = absurd o
+speaks-cut r s (step.Deliver k i) x v o h e = absurd o
+speaks-cut r s (step.Notice u) x v o h e = absurd o
+speaks-cut r s step.TakeOver x v o h e = absurd o
+speaks-cut r s step.Conclude x v o h e = absurd o
+
+-- the votes after an event
+abbrev pub With : (ℕ → Type 0) → (ℕ → Type 0) → ℕ → Type 0
+With w v j = w j ⊎ v j
+
+-- ---- a step of site s, accepted
+
+sure : {X : Type 0} (o : Outcome) → Accepted o → Sure o X → X
+sure Taken h x = x
+sure Passed h x = x
+sure (Refused g) h x = absurd h
+
+-- a delivery changes the network only, and leaves fewer messages
+pub delivered-net : (r : Run) (s : ℕ) (t : Step) → delivered r s t ≡ withNet r (delivered r s t .net)
+unfolding takenOut
+delivered-net r s (step.Begin v) = refl
+delivered-net r s (step.Start k v) = refl
+delivered-net r s (step.Deliver K k) = refl
+delivered-net r s (step.Notice o) = refl
+delivered-net r s step.TakeOver = refl
+delivered-net r s step.Conclude = refl
+
+pub delivered-len : (r : Run) (s : ℕ) (t : Step) → Shaped r → length (delivered r s t .net) ≡ 72
+unfolding takenOut
+delivered-len r s (step.Begin v) h = h .net
+delivered-len r s (step.Start k v) h = length-set (r .net) _ _ ∙ h .net
+delivered-len r s (step.Deliver K k) h = length-set (r .net) _ _ ∙ h .net
+delivered-len r s (step.Notice o) h = h .net
+delivered-len r s step.TakeOver h = h .net
+delivered-len r s step.Conclude h = h .net
+
+pub delivered-less : (r : Run) (s : ℕ) (t : Step) → Shaped r → (K k i : ℕ) → Out (delivered r s t .net) K k i → Out (r .net) K k i
+unfolding takenOut
+delivered-less r s (step.Begin v) h K k i m = m
+delivered-less r s (step.Start f v) h K k i m = taken-less (r .net) 1 f s (h .net) K k i m
+delivered-less r s (step.Deliver c f) h K k i m = taken-less (r .net) c f s (h .net) K k i m
+delivered-less r s (step.Notice o) h K k i m = m
+delivered-less r s step.TakeOver h K k i m = m
+delivered-less r s step.Conclude h K k i m = m
+
+-- a step of a site of a sound run, with the right names, goes by its rule
+pub by-rule : (r : Run) (g : Good r) (s : ℕ) (t : Step) → Runs r s → namesOf (siteAt r s) t ≡ true → stepOf (siteAt r s) t ≡ answered (ruleOf (siteAt r s) t)
+unfolding stepOf doneOf
+by-rule r g s t x n = simp (g .sound s (x .least) (x .most), n)
+
+module _ (w : ℕ → Type 0) (r : Run) (h : Held w r) (s : ℕ) (t : Step) (al : Allowed r s t) where
+  pub sound : Good r
+  sound = good r (al .sound)
+
+  abbrev pub z : Record
+  z = siteAt r s
+
+  pub s8 : s ≤ 8
+  s8 = omega (arith, al .runs .most, sound .most)
+
+  abbrev pub d : Done
+  d = ruleOf z t
+
+  pub step-is : stepOf z t ≡ answered d
+  step-is = by-rule r sound s t (al .runs) (al .names)
+
+  -- the kind of what is written
+  abbrev pub K : ℕ
+  K = cond (eqb (d .to) 0) 0 (d .kind)
+
+  pub ok : Accepted (d .outcome)
+  unfolding answered
+  ok = subst (λ a. Accepted (a .outcome)) step-is (al .accepted)
+
+  pub seen : Stepped w r sound (h .inv) s (al .runs) t d
+  seen = sure (d .outcome) ok (steps w r sound (h .inv) s (al .runs) t (al .names) (al .there))
+
+  pub kinds : (i : ℕ) → In (d .to) i → K ≡ number (seen .κ)
+  kinds i y = ap (λ (b : Bool). cond b 0 (d .kind)) (ne-eqb (d .to) 0 (λ e. in-none i (rw e at y))) ∙ seen .kind i y
+
+  pub outcome : eventOf r (Act s t) .outcome ≡ d .outcome
+  unfolding answered
+  outcome = ap (λ (a : Ran). a .outcome) (al .whole) ∙ ap (λ a. a .outcome) step-is
+
+  -- what the step leaves, whole and cut short
+  pub whole-run : eventOf r (Act s t) .run ≡ wholeRun r (delivered r s t .net) s (d .site) K (minus (d .to) (r .stopped))
+  unfolding acted sentBy answered
+  whole-run = ap (λ (a : Ran). a .run) (al .whole) ∙ ap (λ a. acted r s t a) step-is ∙ ap (λ (y : Run). sentBy (withRecord y s (d .site)) K s (d .to)) (delivered-net r s t)
+
+  pub part-run : (x : ℕ) → eventOf r (Cut s t x) .run ≡ partRun r s K (minus (both (d .to) x) (withSite (r .stopped) s))
+  unfolding cutShort sentBy stoppedAt answered
+  part-run x = ap (λ (a : Ran). a .run) (al .part x) ∙ ap (λ a. cutShort r s a x) step-is
+
+  -- the votes
+  module _ (v : ℕ → Type 0) (who : (i : ℕ) → v i → (i ≡ s) × Voices t × (eventOf r (Act s t) .outcome ≡ Taken)) where
+    given : v s → Gives (seen .κ) × IsQ (viewOf w r .st s)
+    given y = seen .votes .voices (who s y .1) (sym outcome ∙ who s y .2)
+
+    votes : Votes (viewOf w r) s (viewOf (With w v) r .voted)
+    votes =
+        record {
+          old = λ i f p q. inl (f p q);
+          new = λ i f. go i f (ℕ-discrete i s);
+        }
+      where
+        at-s : w s ⊎ v s → viewOf w r .voted s ⊎ ((s ≡ s) × IsQ (viewOf w r .st s))
+        at-s (inl y) = inl (λ _ _. y)
+        at-s (inr y) = inr (refl, given y .1)
+
+        go : (i : ℕ) → (1 ≤ i → i ≤ r .n → With w v i) → Dec (i ≡ s) → viewOf w r .voted i ⊎ ((i ≡ s) × IsQ (viewOf w r .st s))
+        go i f (no ne) = inl (λ p q. ⊎-elim (λ y. y) (λ y. absurd (ne (who i y .0))) (f p q))
+        go i f (yes e) = subst (λ (i : ℕ). (1 ≤ i → i ≤ r .n → With w v i) → viewOf w r .voted i ⊎ ((i ≡ s) × IsQ (viewOf w r .st s))) (sym e) (λ f. at-s (f (al .runs .least) (al .runs .most))) f
+
+    quiet : (Gives (seen .κ) → ⊥) → viewOf (With w v) r .voted s → viewOf w r .voted s
+    quiet n f p q = ⊎-elim (λ y. y) (λ y. absurd (n (given y .0))) (f p q)
+
+  pub whole-held : Held (With w (Now r (Act s t))) (eventOf r (Act s t) .run)
+  whole-held =
+      subst (Held (With w (Now r (Act s t)))) (sym whole-run)
+      (record {
+        shape = record { sites = length-set (r .sites) _ _ ∙ h .shape .sites; net = length-set (delivered r s t .net) _ _ ∙ delivered-len r s t (h .shape) };
+        inv = less _ _
+            (wholly-less w (With w (Now r (Act s t))) r (h .shape) (delivered r s t .net) (delivered-len r s t (h .shape)) s (al .runs .least) s8 (d .site) K (minus (d .to) (r .stopped)) (seen .κ)
+            (λ i. In (d .to) i) (delivered-less r s t (h .shape)) (λ i y. (kinds i (minus-in (d .to) (r .stopped) i y), minus-in (d .to) (r .stopped) i y)) (seen .holds .heard))
+            (whole (viewOf w r) s (h .inv) (al .runs) _ (votes (Now r (Act s t)) (λ i. spoken)) _ _ (seen .κ) (seen .uses) (λ i. In (d .to) i) (λ i. In (d .to) i) (seen .act) (λ i y. y)
+            (λ y p q. inr (speaks r s t (seen .votes .gives y .0) (outcome ∙ seen .votes .gives y .1))) (quiet (Now r (Act s t)) (λ i. spoken)));
+      })
+
+  pub part-held : (x : ℕ) → Held (With w (Now r (Cut s t x))) (eventOf r (Cut s t x) .run)
+  part-held x =
+      subst (Held (With w (Now r (Cut s t x)))) (sym (part-run x))
+      (record {
+        shape = record { sites = h .shape .sites; net = simp (length-set, length-map) (h .shape .net) };
+        inv = less _ _
+            (partly-less w (With w (Now r (Cut s t x))) r (h .shape) s (al .runs .least) s8 K (minus (both (d .to) x) (withSite (r .stopped) s)) (seen .κ) (λ i. In (both (d .to) x) i)
+            (λ i y. (kinds i (both-l (d .to) x i (minus-in (both (d .to) x) (withSite (r .stopped) s) i y)), minus-in (both (d .to) x) (withSite (r .stopped) s) i y)))
+            (cut (viewOf w r) s (h .inv) (al .runs) _ (votes (Now r (Cut s t x)) (λ i. spoken-cut)) _ _ (seen .κ) (seen .uses) (λ i. In (d .to) i) (λ i. In (both (d .to) x) i) (seen .act)
+            (λ i y. both-l (d .to) x i y) left (λ o. quiet (Now r (Cut s t x)) (λ i. spoken-cut) (order-gives (seen .κ) o)));
+      })
+    where
+      left : IsYes (seen .κ) → (i : ℕ) → In (both (d .to) x) i → viewOf (With w (Now r (Cut s t x))) r .voted s
+      left o i y p q =
+          let e = seen .votes .leaves o i (both-l (d .to) x i y) in
+          let g = seen .votes .gives (yes-gives (seen .κ) o) in
+          inr (speaks-cut r s t x (g .0) (e .0) (outcome ∙ g .1) (subst (λ (i : ℕ). has x i ≡ true) (e .1) (both-r (d .to) x i y)))
+
+  -- a and c are not left
+  pub whole-settled : (i : ℕ) → Final (viewOf w r .st i) → viewOf w (eventOf r (Act s t) .run) .st i ≡ viewOf w r .st i
+  whole-settled i f = ap (λ (y : Run). viewOf w y .st i) whole-run ∙ go (ℕ-discrete i s)
+    where
+      go : Dec (i ≡ s) → recordOf (set (r .sites) (s - 1) (d .site)) i .state ≡ viewOf w r .st i
+      go (no ne) = ap (λ (y : Record). y .state) (others (r .sites) s (d .site) (al .runs .least) i ne)
+      go (yes e) =
+          ap (λ (k : ℕ). recordOf (set (r .sites) (s - 1) (d .site)) k .state) e
+          ∙ ap (λ (y : Record). y .state) (replaced (r .sites) s (d .site) (al .runs .least) (omega (arith, s8, h .shape .sites)))
+          ∙ settled (viewOf w r) s (λ i. In (d .to) i) (h .inv) (al .runs) (seen .act) (rw e at f)
+          ∙ ap (viewOf w r .st) (sym e)
+
+-- ---- every event
+
+-- the votes may be written in another way
+pub revote : (w w′ : ℕ → Type 0) (r : Run) → ((i : ℕ) → w i → w′ i) → ((i : ℕ) → w′ i → w i) → Held w r → Held w′ r
+revote w w′ r f g h =
+    record {
+      shape = h .shape;
+      inv = less (viewOf w r) (viewOf w′ r)
+          (record { st = λ i. refl; ld = λ i. refl; runs = λ i y. y; old = λ i y p q. f i (y p q); new = λ i y. inl (λ p q. g i (y p q)); live = λ κ k i y. y })
+          (h .inv);
+    }
+
+module _ (w : ℕ → Type 0) (r : Run) (h : Held w r) where
+  -- a refused event changes nothing, and gives no vote
+  denied : (e : Event) (g : ℕ) → eventOf r e ≡ refusedRun r g → ((i : ℕ) → Now r e i → ⊥) → Held (With w (Now r e)) (eventOf r e .run)
+  denied e g q n = subst (Held (With w (Now r e))) (sym (ap (λ (a : Ran). a .run) q)) (revote w (With w (Now r e)) r (λ i y. inl y) (λ i. ⊎-elim (λ y. y) (λ y. absurd (n i y))) h)
+
+  refused-taken : (g : ℕ) → Refused g ≡ Taken → ⊥
+  refused-taken g e = subst IsRefused e tt
+    where
+      IsRefused : Outcome → Type 0
+      IsRefused Taken = ⊥
+      IsRefused Passed = ⊥
+      IsRefused (Refused n) = Unit
+
+  not-taken : (s : ℕ) (t : Step) → Denied r s t → eventOf r (Act s t) .outcome ≡ Taken → ⊥
+  not-taken s t n e = refused-taken (n .ground) (sym (ap (λ (a : Ran). a .outcome) (n .whole)) ∙ e)
+
+  stop-silent : (s : ℕ) (i : ℕ) → Now r (Stop s) i → ⊥
+  stop-silent s i (later y) = some y refl
+
+  pub keeps : (e : Event) → Held (With w (Now r e)) (eventOf r e .run)
+  keeps (Act s t) = ⊎-elim (whole-held w r h s t) (λ n. denied (Act s t) (n .ground) (n .whole) (λ i y. not-taken s t n (spoken y .2))) (decide r s t)
+  keeps (Cut s t x) = ⊎-elim (λ al. part-held w r h s t al x) (λ n. denied (Cut s t x) (n .ground) (n .part x) (λ i y. not-taken s t n (spoken-cut y .2))) (decide r s t)
+  keeps (Stop s) = ⊎-elim halted (λ n. denied (Stop s) (n .ground) (n .done) (stop-silent s)) (decide-stop r s)
+    where
+      halted : Halted r s → Held (With w (Now r (Stop s))) (eventOf r (Stop s) .run)
+      halted n =
+          subst (Held (With w (Now r (Stop s)))) (sym (ap (λ (a : Ran). a .run) (n .done)))
+          (revote w (With w (Now r (Stop s))) (stoppedAt r s) (λ i y. inl y) (λ i. ⊎-elim (λ y. y) (λ y. absurd (stop-silent s i y))) stops)
+        where
+          stops : Held w (stoppedAt r s)
+          stops =
+              record {
+                shape = unfold stoppedAt in record { sites = h .shape .sites; net = length-map (r .net) _ ∙ h .shape .net };
+                inv = less _ _ (stopped-view r s (omega (arith, n .runs .most, good r (n .sound) .most)) w w)
+                    (stop-inv (viewOf w r) s _ (n .runs) (record { old = λ i y. y; new = λ i y. inl y }) (h .inv));
+              }
+
+  -- a and c are not left
+  pub settles : (e : Event) (i : ℕ) → Final (viewOf w r .st i) → viewOf w (eventOf r e .run) .st i ≡ viewOf w r .st i
+  settles (Act s t) i f = ⊎-elim (λ al. whole-settled w r h s t al i f) (λ n. ap (λ (a : Ran). viewOf w (a .run) .st i) (n .whole)) (decide r s t)
+  settles (Cut s t x) i f = ⊎-elim (λ al. ap (λ (y : Run). viewOf w y .st i) (part-run w r h s t al x)) (λ n. ap (λ (a : Ran). viewOf w (a .run) .st i) (n .part x)) (decide r s t)
+  settles (Stop s) i f = ⊎-elim (λ n. ap (λ (a : Ran). viewOf w (a .run) .st i) (n .done) ∙ still) (λ n. ap (λ (a : Ran). viewOf w (a .run) .st i) (n .done)) (decide-stop r s)
+    where
+      still : viewOf w (stoppedAt r s) .st i ≡ viewOf w r .st i
+      still = unfold stoppedAt in refl
+
+  -- no event conflicts
+  abbrev groundOf : Outcome → ℕ
+  groundOf Taken = 0
+  groundOf Passed = 0
+  groundOf (Refused g) = g
+
+  accepts : (o : Outcome) → Accepted o → o ≡ Refused 6 → ⊥
+  accepts o y e = subst Accepted e y
+
+  peace : (s : ℕ) (t : Step) (n : Denied r s t) → Refused (n .ground) ≡ Refused 6 → ⊥
+  unfolding answered
+  peace s t n q = ⊎-elim (λ l. let e : n .ground ≡ 6 = ap groundOf q in omega arith) (λ y. conflict (y .0) (y .1) (y .2) (y .3) (y .4)) (n .why)
+    where
+      conflict : soundRun r ≡ true → Runs r s → namesOf (siteAt r s) t ≡ true → isThere r s t ≡ true → stepOf (siteAt r s) t .outcome ≡ Refused (n .ground) → ⊥
+      conflict g x m i o =
+          subst (λ (o : Outcome). Sure o (Stepped w r (good r g) (h .inv) s x t (ruleOf (siteAt r s) t)))
+          (sym (ap (λ a. a .outcome) (by-rule r (good r g) s t x m)) ∙ o ∙ q)
+          (steps w r (good r g) (h .inv) s x t m i) refl
+
+  pub at-peace : (e : Event) → eventOf r e .outcome ≡ Refused 6 → ⊥
+  at-peace (Act s t) q =
+      ⊎-elim (λ al. accepts _ (al .accepted) (sym (ap (λ (a : Ran). a .outcome) (al .whole)) ∙ q)) (λ n. peace s t n (sym (ap (λ (a : Ran). a .outcome) (n .whole)) ∙ q)) (decide r s t)
+  at-peace (Cut s t x) q =
+      ⊎-elim (λ al. accepts Taken tt (sym (ap (λ (a : Ran). a .outcome) (al .part x)) ∙ q)) (λ n. peace s t n (sym (ap (λ (a : Ran). a .outcome) (n .part x)) ∙ q)) (decide r s t)
+  at-peace (Stop s) q =
+      ⊎-elim (λ n. accepts Taken tt (sym (ap (λ (a : Ran). a .outcome) (n .done)) ∙ q))
+      (λ n. let e : n .ground ≡ 6 = ap groundOf (sym (ap (λ (a : Ran). a .outcome) (n .done)) ∙ q) in omega (arith, n .why)) (decide-stop r s)

@@ -1,0 +1,125 @@
+-- What only takes away keeps the invariant: lost messages, stops, and the votes that a stop still lets out.
+-- Assumes nothing.
+use Prim.Native.Nat.{ℕ, _≤_, _<_}
+use mathlib.Core.Path.{_≡_, refl, subst, fun-ext}
+use mathlib.Core.Logic.{_≢_, _⊎_, inl, inr, ⊎-elim}
+use Rattle.site.specs.declared.State.{State}
+use Rattle.promise.specs.Classes.{Kind, Yes, MoveP, MoveW, Ack, IsQ, IsW, IsA, IsC, PC, QWA, Order, Prepares, IsCommit, IsAbort, First}
+use Rattle.promise.specs.View.{View, Evidence, seen, told, EP, EA, EC, Open, Lead, Lowest, Mute, MayPrepare, MayAbort, MayCommit, nobody, Inv}
+
+-- b is a with fewer running sites and live messages, the same states and leaders, and the same votes but for those of sites that stop in q.
+pub record Less (b a : View) : Type 0 where
+  pub st : (i : ℕ) → a .st i ≡ b .st i
+  pub ld : (i : ℕ) → a .ld i ≡ b .ld i
+  pub runs : (i : ℕ) → b .runs i → a .runs i
+  pub old : (i : ℕ) → a .voted i → b .voted i
+  pub new : (i : ℕ) → b .voted i → a .voted i ⊎ (a .runs i × IsQ (a .st i) × (b .runs i → ⊥))
+  pub live : (κ : Kind) (k j : ℕ) → b .live κ k j → a .live κ k j
+
+module _ (a b : View) (h : Less b a) where
+  -- b, written with the states and leaders of a
+  abbrev with-a : (ℕ → State) → (ℕ → ℕ) → View
+  with-a s l = record { runs = b .runs; st = s; ld = l; voted = b .voted; live = b .live }
+
+  abbrev m : View
+  m = with-a (a .st) (a .ld)
+
+  less-evidence : {S : State → Type 0} {K : Kind → Type 0} → Evidence S K (a .st) (b .live) → Evidence S K (a .st) (a .live)
+  less-evidence (seen i x) = seen i x
+  less-evidence (told κ k j c x) = told κ k j c (h .live κ k j x)
+
+  less-open : (j : ℕ) → Open m j → Open a j
+  less-open j o = (h .runs j (o .0), o .1)
+
+  -- an exempt site runs no more, and gives no vote in stopping
+  module _ (exempt : ℕ → Type 0) (out : (i : ℕ) → exempt i → b .runs i → ⊥) (dumb : (i : ℕ) → exempt i → b .voted i → a .voted i) where
+    less-mute : Mute a exempt → Mute m nobody
+    less-mute u =
+        record {
+          site = u .site;
+          silent = λ x. u .silent (⊎-elim (λ y. y) (λ y. dumb (u .site) (u .past (y .0) (y .1)) x) (h .new (u .site) x));
+          past = λ r q. out (u .site) (u .past (h .runs (u .site) r) q) r;
+        }
+
+    less-prepare : MayPrepare a exempt → MayPrepare m nobody
+    less-prepare p = record { all = λ j. h .old j (p .all j); shut = λ j o. out j (p .shut j (less-open j o)) (o .0) }
+
+    less-abort : MayAbort a exempt → MayAbort m nobody
+    less-abort p =
+        record {
+          none = λ j r. p .none j (h .runs j r);
+          deaf = λ k j x r. p .deaf k j (h .live MoveP k j x) (h .runs j r);
+          apart = λ e. p .apart (less-evidence e);
+          barred = λ j o. ⊎-elim (λ e. absurd (out j e (o .0))) (λ u. inr (less-mute u)) (p .barred j (less-open j o));
+        }
+
+  less-commit : MayCommit a → MayCommit m
+  less-commit p =
+      record {
+        each = λ j r. p .each j (h .runs j r);
+        deaf = λ k j x r. p .deaf k j (h .live MoveW k j x) (h .runs j r);
+        apart = λ e. p .apart (less-evidence e);
+      }
+
+  less-m : Inv a → Inv m
+  less-m v =
+      record {
+        site = λ i r. v .site i (h .runs i r);
+        low = v .low;
+        up = λ κ k j o x. v .up κ k j o (h .live κ k j x);
+        down = λ k j x. v .down k j (h .live Ack j k x);
+        lowest = λ κ k j o x i l r. v .lowest κ k j o (h .live κ k j x) i l (h .runs i r);
+        unvoted = λ j r q w. ⊎-elim (v .unvoted j (h .runs j r) q) (λ y. y .2 r) (h .new j w);
+        waiting = λ j o w. h .old j (v .waiting j (less-open j o) w);
+        yes = λ k j x. h .old k (v .yes k j (h .live Yes k j x));
+        orders = λ κ k j o x r. v .orders κ k j o (h .live κ k j x) (h .runs k r);
+        leader = λ k j x r. v .leader k j (h .live Ack j k x) (h .runs k r);
+        follower = λ k j x r t. v .follower k j (h .live Ack j k x) (h .runs k r) (h .runs j t);
+        prepared = λ e. less-prepare nobody (λ i x. absurd x) (λ i x. absurd x) (v .prepared (less-evidence e));
+        aborted = λ e. less-abort nobody (λ i x. absurd x) (λ i x. absurd x) (v .aborted (less-evidence e));
+        committed = λ e. less-commit (v .committed (less-evidence e));
+      }
+
+  pub less : Inv a → Inv b
+  less v = subst Inv (λ i. with-a (fun-ext (h .st) i) (fun-ext (h .ld) i)) (less-m v)
+
+-- Site k stops; the votes given are then w.
+abbrev pub stop : View → ℕ → (ℕ → Type 0) → View
+stop a k w = record { runs = λ i. a .runs i × (i ≢ k); st = a .st; ld = a .ld; voted = w; live = a .live }
+
+-- the votes w are those of a, perhaps with that of a running site j in q
+pub record Votes (a : View) (j : ℕ) (w : ℕ → Type 0) : Type 0 where
+  pub old : (i : ℕ) → a .voted i → w i
+  pub new : (i : ℕ) → w i → a .voted i ⊎ ((i ≡ j) × IsQ (a .st j))
+
+module _ (a : View) (k : ℕ) (w : ℕ → Type 0) (r : a .runs k) (g : Votes a k w) where
+  pub stop-less : Less (stop a k w) a
+  stop-less =
+      record {
+        st = λ i. refl;
+        ld = λ i. refl;
+        runs = λ i x. x .0;
+        old = g .old;
+        new = λ i x. ⊎-elim (λ y. inl y) (λ e. inr (rw (e .0) r, rw (e .0) (e .1), λ y. y .1 (e .0))) (g .new i x);
+        live = λ κ i j x. x;
+      }
+
+  pub stop-inv : Inv a → Inv (stop a k w)
+  stop-inv = less a (stop a k w) stop-less
+
+  abbrev self : ℕ → Type 0
+  self i = i ≡ k
+
+  -- what k may order, in the run from which it has just stopped
+  module _ (same : w k → a .voted k) where
+    dumb : (i : ℕ) → i ≡ k → w i → a .voted i
+    dumb i e x = rw e (same (rw e at x))
+
+    pub stop-prepare : MayPrepare a self → MayPrepare (stop a k w) nobody
+    stop-prepare = less-prepare a (stop a k w) stop-less self (λ i e x. x .1 e) dumb
+
+    pub stop-abort : MayAbort a self → MayAbort (stop a k w) nobody
+    stop-abort = less-abort a (stop a k w) stop-less self (λ i e x. x .1 e) dumb
+
+    pub stop-commit : MayCommit a → MayCommit (stop a k w)
+    stop-commit = less-commit a (stop a k w) stop-less

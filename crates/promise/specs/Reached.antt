@@ -1,0 +1,70 @@
+-- Every run from fresh: what the invariant, the potential and the dues say of it.
+-- Assumes nothing.
+use Prim.Native.Nat.{ℕ, _≤_}
+use mathlib.Core.Bool.{true, false}
+use mathlib.Core.List.{List, _++_}
+use mathlib.Core.Path.{_≡_, sym, ap, _∙_}
+use mathlib.Core.Logic.{_≢_, _⊎_, inl, inr, ⊎-elim}
+use Rattle.site.specs.declared.State.{State}
+use Rattle.site.specs.declared.State.the-variants.{A, C}
+use Rattle.site.specs.declared.Outcome.the-variants.{Refused}
+use Rattle.run.specs.declared.Run.{Run}
+use Rattle.run.specs.declared.Event.{Event}
+use Rattle.run.specs.declared.Event.the-variants.{Stop}
+use Rattle.run.specs.Run.{stateOf, hasStopped}
+use Rattle.run.specs.Event.{freshOf, eventOf}
+use Rattle.promise.specs.RunViews.{recordOf, record-at}
+use Rattle.promise.specs.RunFrame.{stopped-kept, told-keeps, after-on}
+use Rattle.promise.specs.View.{seen}
+use Rattle.promise.specs.Safety.{Final}
+use Rattle.promise.specs.Seen.{viewOf}
+use Rattle.promise.specs.Words.{IsSite, reached, Accepts, Voted}
+use Rattle.promise.specs.Keeping.{Held, With, at-peace}
+use Rattle.promise.specs.Fresh.{nothing, sites-after, held-after, told-settled}
+use Rattle.promise.specs.Stuck.{decided-after}
+use Rattle.run.specs.After.{after}
+
+-- the state of a site, as the invariant sees it
+state-of : (r : Run) (i : ℕ) → 1 ≤ i → recordOf (r .sites) i .state ≡ stateOf r i
+unfolding stateOf
+state-of r i h = ap (λ s. s .state) (record-at r i h)
+
+module _ (n : ℕ) (least : 2 ≤ n) (most : n ≤ 8) (es : List Event) where
+  abbrev r : Run
+  r = reached n es
+
+  abbrev votes : ℕ → Type 0
+  votes = With nothing (Voted (freshOf n .run) es)
+
+  held : Held votes r
+  held = held-after n least most es
+
+  -- a site's state, for the invariant
+  in-state : (i : ℕ) (s : State) → IsSite n i → stateOf r i ≡ s → recordOf (r .sites) i .state ≡ s
+  in-state i s p e = state-of r i (p .0) ∙ e
+
+  pub agree : (i j : ℕ) → IsSite n i → IsSite n j → stateOf r i ≡ C → stateOf r j ≡ A → ⊥
+  agree i j p q c a = held .inv .aborted (seen j (rw (in-state j A q a) tt)) .apart (seen i (rw (in-state i C p c) tt))
+
+  pub keep : (s : State) → Final s → (fs : List Event) (i : ℕ) → IsSite n i → stateOf r i ≡ s → stateOf (reached n (es ++ fs)) i ≡ s
+  keep s f fs i p e =
+      sym (state-of (reached n (es ++ fs)) i (p .0)) ∙ ap (λ t. viewOf votes (t .run) .st i) (after-on n es fs)
+      ∙ told-settled votes (after n es) fs held i (rw (in-state i s p e) f) ∙ in-state i s p e
+
+  pub halt : (fs : List Event) (i : ℕ) → hasStopped r i ≡ true → hasStopped (reached n (es ++ fs)) i ≡ true
+  unfolding hasStopped
+  halt fs i e = rw (reached, after-on n es fs) (told-keeps (λ (r : Run). hasStopped r i ≡ true) (λ r e h. stopped-kept r i h e) (after n es) fs e)
+
+  pub vote : (i : ℕ) → IsSite n i → stateOf r i ≡ C → (j : ℕ) → IsSite n j → Voted (freshOf n .run) es j
+  vote i p c j q =
+      ⊎-elim (λ x. absurd x) (λ x. x)
+      (held .inv .prepared (seen i (rw (in-state i C p c) tt)) .all j (q .0) (rw (sites-after n least most es) (q .1)))
+
+  pub peace : (e : Event) → eventOf r e .outcome ≢ Refused 6
+  peace e = at-peace votes r held e
+
+  pub decide : ((e : Event) → Accepts r e → (s : ℕ) × (e ≡ Stop s)) → (i : ℕ) → IsSite n i → hasStopped r i ≡ false → (stateOf r i ≡ C) ⊎ (stateOf r i ≡ A)
+  unfolding hasStopped
+  decide h i p u =
+      ⊎-elim (λ c. inl (sym (state-of r i (p .0)) ∙ c)) (λ a. inr (sym (state-of r i (p .0)) ∙ a))
+      (decided-after n least most es h i (record { least = p .0; most = rw (sites-after n least most es) (p .1); up = u }))

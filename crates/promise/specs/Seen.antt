@@ -1,0 +1,157 @@
+-- The real run as the invariant sees it, and that a whole step and a cut one are no more than the invariant allows for.
+-- Assumes nothing.
+use Prim.Native.Nat.{ℕ, zero, suc, _+_, _-_, _*_, _≤_, _<_}
+use mathlib.Core.Bool.{Bool, true, false, cond}
+use mathlib.Core.List.{List}
+use mathlib.Core.Path.{_≡_, refl, sym, ap, subst, _∙_}
+use mathlib.Core.Logic.{_≢_, _⊎_, inl, inr, ⊎-elim}
+use native.Mathlib.Decide.{ℕ-discrete}
+use native.Mathlib.Omega.{arith}
+use lib.Dec.{eqb}
+use lib.ListN.{length, getD, set, length-map, length-set}
+use Rattle.sets.specs.Sets.{has, minus, both, withSite}
+use Rattle.sets.specs.SetLaws.{Site}
+use Rattle.site.specs.declared.State.{State}
+use Rattle.site.specs.declared.Site.{Site as Record}
+use Rattle.run.specs.declared.Run.{Run}
+use Rattle.run.specs.Run.{siteAt, sentBy, stoppedAt, withRecord}
+use Rattle.promise.specs.SetsMembers.{In, is-not, in?, not-not, minus-in, both-l, both-r, in-with, in-with-new}
+use Rattle.promise.specs.RunViews.{Shaped, recordOf, record-at, replaced, others, Runs, Out, sentNet, sent-cases, stoppedNet, stopped-less}
+use Rattle.promise.specs.Classes.{Kind, Start, Yes, No, MoveP, MoveW, Ack, Commit, Abort, byKind}
+use Rattle.promise.specs.View.{View}
+use Rattle.promise.specs.Less.{Less, stop}
+use Rattle.promise.specs.Become.{upd, upd-same, upd-other, become}
+use Rattle.promise.specs.Send.{send}
+
+-- The number of a kind.
+abbrev pub number : Kind → ℕ
+number Start = 1
+number Yes = 2
+number No = 3
+number MoveP = 4
+number MoveW = 5
+number Ack = 6
+number Commit = 7
+number Abort = 8
+
+kindOf : ℕ → Kind
+kindOf k = cond (eqb k 1) Start (cond (eqb k 2) Yes (cond (eqb k 3) No (cond (eqb k 4) MoveP (cond (eqb k 5) MoveW (cond (eqb k 6) Ack (cond (eqb k 7) Commit Abort))))))
+
+kind-of : (κ : Kind) → kindOf (number κ) ≡ κ
+unfolding kindOf
+kind-of Start = refl
+kind-of Yes = refl
+kind-of No = refl
+kind-of MoveP = refl
+kind-of MoveW = refl
+kind-of Ack = refl
+kind-of Commit = refl
+kind-of Abort = refl
+
+pub same-kind : (κ κ′ : Kind) → number κ ≡ number κ′ → κ ≡ κ′
+same-kind κ κ′ e = sym (kind-of κ) ∙ ap kindOf e ∙ kind-of κ′
+
+-- A record holds a Yes, No or Ack of k.
+abbrev pub Recorded : Kind → Record → ℕ → Type 0
+Recorded κ x k = byKind ⊥ (In (x .yes) k) (In (x .no) k) ⊥ ⊥ (In (x .acked) k) ⊥ ⊥ κ
+
+-- The view of a run, with w for the votes given. Numbers that are no site's count as having voted.
+abbrev pub viewOf : (ℕ → Type 0) → Run → View
+viewOf w r =
+    record {
+      runs = Runs r;
+      st = λ i. recordOf (r .sites) i .state;
+      ld = λ i. recordOf (r .sites) i .leader;
+      voted = λ i. 1 ≤ i → i ≤ r .n → w i;
+      live = λ κ k i. Out (r .net) (number κ) k i ⊎ Recorded κ (recordOf (r .sites) i) k;
+    }
+
+-- The run r in which site j has a new record x, the network is net, and messages of kind K of j to the sites of m are added.
+abbrev pub wholeRun : Run → List ℕ → ℕ → Record → ℕ → ℕ → Run
+wholeRun r net j x K m = record { n = r .n; stopped = r .stopped; sites = set (r .sites) (j - 1) x; net = sentNet net K j m }
+
+-- The run r in which site j has stopped, and messages of kind K of j to the sites of m are added.
+abbrev pub partRun : Run → ℕ → ℕ → ℕ → Run
+partRun r j K m = record { n = r .n; stopped = withSite (r .stopped) j; sites = r .sites; net = sentNet (stoppedNet (r .net) j) K j m }
+
+-- Site j of r has a new record x and writes messages of kind K to a set; net is r's, perhaps with fewer messages.
+module _ (w w′ : ℕ → Type 0) (r : Run) (shape : Shaped r) (net : List ℕ) (len : length net ≡ 72) (j : ℕ) (j1 : 1 ≤ j) (j8 : j ≤ 8)
+    (x : Record) (K m : ℕ) (κ : Kind) (T : ℕ → Type 0)
+    (fewer : (K k i : ℕ) → Out net K k i → Out (r .net) K k i)
+    (kind : (i : ℕ) → In m i → (K ≡ number κ) × T i)
+    (heard : (κ : Kind) (k : ℕ) → Recorded κ x k → viewOf w r .live κ k j) where
+  abbrev wholly : Run
+  wholly = wholeRun r net j x K m
+
+  new-j : recordOf (wholly .sites) j ≡ x
+  new-j = replaced (r .sites) j x j1 (omega (arith, shape .sites))
+
+  -- a part of the record, changed at j
+  changed : {A : Type 0} (f : Record → A) (i : ℕ) → upd (λ i. f (recordOf (r .sites) i)) j (f x) i ≡ f (recordOf (wholly .sites) i)
+  changed f i = go (ℕ-discrete i j)
+    where
+      go : Dec (i ≡ j) → upd (λ i. f (recordOf (r .sites) i)) j (f x) i ≡ f (recordOf (wholly .sites) i)
+      go (yes e) = rw e (upd-same _ j (f x) ∙ ap f (sym new-j))
+      go (no ne) = upd-other _ j (f x) i ne ∙ ap f (sym (others (r .sites) j x j1 i ne))
+
+  lives : (κ′ : Kind) (k i : ℕ) → viewOf w′ wholly .live κ′ k i → viewOf w r .live κ′ k i ⊎ ((κ ≡ κ′) × (j ≡ k) × T i)
+  lives κ′ k i (inl y) = ⊎-elim (λ z. inl (inl (fewer (number κ′) k i z))) (λ z. inr (same-kind κ κ′ (sym (kind i (z .2) .0) ∙ z .0), z .1, kind i (z .2) .1)) (sent-cases net K j m len (number κ′) k i y)
+  lives κ′ k i (inr y) = go (ℕ-discrete i j)
+    where
+      go : Dec (i ≡ j) → viewOf w r .live κ′ k i ⊎ ((κ ≡ κ′) × (j ≡ k) × T i)
+      go (yes e) = inl (subst (λ (i : ℕ). viewOf w r .live κ′ k i) (sym e) (heard κ′ k (subst (λ (x : Record). Recorded κ′ x k) (ap (recordOf (wholly .sites)) e ∙ new-j) y)))
+      go (no ne) = inl (inr (subst (λ (x : Record). Recorded κ′ x k) (others (r .sites) j x j1 i ne) y))
+
+  pub wholly-less : Less (viewOf w′ wholly) (send (become (viewOf w r) j (x .state) (x .leader) (viewOf w′ r .voted)) κ j T)
+  wholly-less =
+      record {
+        st = changed (λ x. x .state);
+        ld = changed (λ x. x .leader);
+        runs = λ i y. record { least = y .least; most = y .most; up = y .up };
+        old = λ i y. y;
+        new = λ i y. inl y;
+        live = lives;
+      }
+
+-- Site j of r stops.
+module _ (r : Run) (j : ℕ) (j8 : j ≤ 8) where
+  pub still-runs : (i : ℕ) (net : List ℕ) → Runs (record { n = r .n; stopped = withSite (r .stopped) j; sites = r .sites; net = net }) i → Runs r i × (i ≢ j)
+  still-runs i net y = (
+    record { least = y .least; most = y .most; up = not-not (has (r .stopped) i) (λ h. is-not _ (in-with (r .stopped) j i h) (y .up)) },
+    λ e. is-not _ (in-with-new (r .stopped) j i (record { least = y .least; most = omega (arith, j8) }) e) (y .up),
+  )
+
+  pub stopped-view : (w w′ : ℕ → Type 0) → Less (viewOf w′ (stoppedAt r j)) (stop (viewOf w r) j (viewOf w′ r .voted))
+  unfolding stoppedAt
+  stopped-view w w′ =
+      record {
+        st = λ i. refl;
+        ld = λ i. refl;
+        runs = λ i. still-runs i (stoppedNet (r .net) j);
+        old = λ i y. y;
+        new = λ i y. inl y;
+        live = λ κ k i. ⊎-elim (λ y. inl (stopped-less (r .net) j (number κ) k i y)) (λ y. inr y);
+      }
+
+-- Site j of r stops, and messages of kind K to a set still leave.
+module _ (w w′ : ℕ → Type 0) (r : Run) (shape : Shaped r) (j : ℕ) (j1 : 1 ≤ j) (j8 : j ≤ 8) (K m : ℕ) (κ : Kind) (T : ℕ → Type 0)
+    (kind : (i : ℕ) → In m i → (K ≡ number κ) × T i) where
+  abbrev partly : Run
+  partly = partRun r j K m
+
+  lives′ : (κ′ : Kind) (k i : ℕ) → viewOf w′ partly .live κ′ k i → viewOf w r .live κ′ k i ⊎ ((κ ≡ κ′) × (j ≡ k) × T i)
+  lives′ κ′ k i (inl y) =
+      ⊎-elim (λ z. inl (inl (stopped-less (r .net) j (number κ′) k i z))) (λ z. inr (same-kind κ κ′ (sym (kind i (z .2) .0) ∙ z .0), z .1, kind i (z .2) .1))
+      (sent-cases (stoppedNet (r .net) j) K j m (length-map (r .net) _ ∙ shape .net) (number κ′) k i y)
+  lives′ κ′ k i (inr y) = inl (inr y)
+
+  pub partly-less : Less (viewOf w′ partly) (send (stop (viewOf w r) j (viewOf w′ r .voted)) κ j T)
+  partly-less =
+      record {
+        st = λ i. refl;
+        ld = λ i. refl;
+        runs = λ i. still-runs r j j8 i (partly .net);
+        old = λ i y. y;
+        new = λ i y. inl y;
+        live = lives′;
+      }

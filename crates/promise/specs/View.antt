@@ -1,0 +1,105 @@
+-- A run as agreement sees it, and the invariant of safety.
+-- Assumes nothing.
+use Prim.Native.Nat.{ℕ, _≤_, _<_}
+use mathlib.Core.Logic.{_⊎_}
+use Rattle.site.specs.declared.State.{State}
+use Rattle.promise.specs.Classes.{Kind, Yes, MoveP, MoveW, Ack, IsQ, IsW, IsA, IsC, PC, QWA, Order, Prepares, IsCommit, IsAbort, Stands, Relies, First, Leads}
+
+-- What the invariant reads of a run. `live κ k j`: a message of kind κ from k to j is outstanding, or is a Yes, No or Ack that j has recorded.
+pub record View : Type 1 where
+  -- i is one of the sites and has not stopped
+  pub runs : ℕ → Type 0
+  pub st : ℕ → State
+  pub ld : ℕ → ℕ
+  -- j has voted yes so far
+  pub voted : ℕ → Type 0
+  pub live : Kind → ℕ → ℕ → Type 0
+
+-- Some site, stopped or not, is in a state of the one class, or some message of the other is live.
+pub data Evidence (S : State → Type 0) (K : Kind → Type 0) (st : ℕ → State) (live : Kind → ℕ → ℕ → Type 0) : Type 0 where
+  seen : (i : ℕ) → S (st i) → Evidence S K st live
+  told : (κ : Kind) (k j : ℕ) → K κ → live κ k j → Evidence S K st live
+
+-- Something was prepared; some site aborted; some site committed.
+abbrev pub EP : View → Type 0
+EP a = Evidence PC Prepares (a .st) (a .live)
+
+abbrev pub EA : View → Type 0
+EA a = Evidence IsA IsAbort (a .st) (a .live)
+
+abbrev pub EC : View → Type 0
+EC a = Evidence IsC IsCommit (a .st) (a .live)
+
+-- Site j may still prepare by the first phase.
+abbrev pub Open : View → ℕ → Type 0
+Open a j = a .runs j × First j (a .st j)
+
+abbrev pub Lead : View → ℕ → Type 0
+Lead a k = Leads k (a .st k) (a .ld k)
+
+-- No site below k runs.
+abbrev pub Lowest : View → ℕ → Type 0
+Lowest a k = (i : ℕ) → i < k → a .runs i → ⊥
+
+-- Some site will never have voted yes: it has not, and it has stopped or left q, or is exempt.
+pub record Mute (a : View) (exempt : ℕ → Type 0) : Type 0 where
+  pub site : ℕ
+  pub silent : a .voted site → ⊥
+  pub past : a .runs site → IsQ (a .st site) → exempt site
+
+-- What must hold where something was prepared. An exempt site is one that leaves its first phase now, by its step or its stop.
+pub record MayPrepare (a : View) (exempt : ℕ → Type 0) : Type 0 where
+  -- every site has voted yes
+  pub all : (j : ℕ) → a .voted j
+  -- no site may still prepare by the first phase
+  pub shut : (j : ℕ) → Open a j → exempt j
+
+-- What must hold where some site aborted.
+pub record MayAbort (a : View) (exempt : ℕ → Type 0) : Type 0 where
+  -- no running site is in p or c
+  pub none : (j : ℕ) → a .runs j → QWA (a .st j)
+  -- no running site will obey a Move-p
+  pub deaf : (k j : ℕ) → a .live MoveP k j → a .runs j → k < a .ld j
+  -- no site committed
+  pub apart : EC a → ⊥
+  -- where a site may still prepare by the first phase, some site will never have voted yes
+  pub barred : (j : ℕ) → Open a j → exempt j ⊎ Mute a exempt
+
+-- What must hold where some site committed.
+pub record MayCommit (a : View) : Type 0 where
+  -- every running site is in p or c
+  pub each : (j : ℕ) → a .runs j → PC (a .st j)
+  -- no running site will obey a Move-w
+  pub deaf : (k j : ℕ) → a .live MoveW k j → a .runs j → k < a .ld j
+  -- no site aborted
+  pub apart : EA a → ⊥
+
+abbrev pub nobody : ℕ → Type 0
+nobody i = ⊥
+
+pub record Inv (a : View) : Type 0 where
+  -- sites are counted from 1
+  pub site : (i : ℕ) → a .runs i → 1 ≤ i
+  -- no site follows a higher one
+  pub low : (i : ℕ) → a .ld i ≤ i
+  -- orders go to higher sites
+  pub up : (κ : Kind) (k j : ℕ) → Order κ → a .live κ k j → k < j
+  -- acknowledgements go to lower sites
+  pub down : (k j : ℕ) → a .live Ack j k → k < j
+  -- below the sender of an order no site runs
+  pub lowest : (κ : Kind) (k j : ℕ) → Order κ → a .live κ k j → Lowest a k
+  -- a running site in q has not voted
+  pub unvoted : (j : ℕ) → a .runs j → IsQ (a .st j) → a .voted j → ⊥
+  -- a site in w that may still prepare by the first phase has voted
+  pub waiting : (j : ℕ) → Open a j → IsW (a .st j) → a .voted j
+  -- a Yes comes from a site that has voted
+  pub yes : (k j : ℕ) → a .live Yes k j → a .voted k
+  -- a running site whose order is live leads, and is in a state that goes with it
+  pub orders : (κ : Kind) (k j : ℕ) → Order κ → a .live κ k j → a .runs k → Lead a k × Stands κ (a .st k)
+  -- a running site that was acknowledged leads
+  pub leader : (k j : ℕ) → a .live Ack j k → a .runs k → Lead a k
+  -- a running leader can rely on the running sites that acknowledged
+  pub follower : (k j : ℕ) → a .live Ack j k → a .runs k → a .runs j → Relies (a .st k) k (a .st j) (a .ld j)
+  pub prepared : EP a → MayPrepare a nobody
+  pub aborted : EA a → MayAbort a nobody
+  pub committed : EC a → MayCommit a
