@@ -7,7 +7,7 @@ ghost use Prim.Native.Nat.{ℕ, _+_, _≤_};
 ghost use lib.Dec.{eqb};
 ghost use Rattle.sets.specs.Sets.{subset};
 ghost use Rattle.site.specs.Site.{soundOf};
-ghost use Rattle.run.specs.Run.{outstanding, withRecord, takenOut, sentBy, stoppedAt, freshSite, freshRun};
+ghost use Rattle.run.specs.Run.{siteAt, outstanding, withRecord, takenOut, sentBy, stoppedAt, freshSite, freshRun};
 ghost use Rattle.run.specs.Sound.{every, soundPlace, soundRun};
 ghost use Rattle.run.specs.Event.{refusedRun, freshOf, isThere, delivered, acted, cutShort, stopped, happened, eventOf};
 ghost use Rattle.run.specs.Ground.{groundOf};
@@ -174,6 +174,15 @@ impl Run {
         net::sound(&net, n, stopped)
     }
 
+    // The record of site s.
+    fn site_at(self, s: u8) -> Site
+        requires { ⌜ (1 ≤ s) × (s ≤ 8) ⌝ }
+        ensures { λ r. ⌜ r ≡ siteAt self s ⌝ }
+    {
+        let i = (s - 1) as usize;
+        self.sites[i]
+    }
+
     // Is the message of this kind from this sender to site s outstanding?
     fn outstanding(self, kind: u8, sender: u8, s: u8) -> bool
         ensures { λ r. ⌜ r ≡ outstanding self kind sender s ⌝ }
@@ -195,8 +204,7 @@ impl Run {
                 if !sets::member(self.stopped, o) {
                     return false;
                 }
-                let i = (s - 1) as usize;
-                let site = self.sites[i];
+                let site = self.site_at(s);
                 !sets::member(site.known, o)
             }
             Step::TakeOver => true,
@@ -216,8 +224,7 @@ impl Run {
         if n < s {
             return 2;
         }
-        let i = (s - 1) as usize;
-        let site = self.sites[i];
+        let site = self.site_at(s);
         if !site.names(step) {
             return 2;
         }
@@ -326,9 +333,7 @@ impl Run {
         if ground != 0 {
             return self.refused(ground);
         }
-        let i = (s - 1) as usize;
-        let site = self.sites[i];
-        let answer = site.step(step);
+        let answer = self.site_at(s).step(step);
         let outcome = answer.outcome;
         let counts = answer.counts;
         if let Outcome::Refused(g) = outcome {
@@ -376,9 +381,7 @@ impl Run {
         if ground != 0 {
             return self.refused(ground);
         }
-        let i = (s - 1) as usize;
-        let site = self.sites[i];
-        let answer = site.step(step);
+        let answer = self.site_at(s).step(step);
         let outcome = answer.outcome;
         if let Outcome::Refused(g) = outcome {
             return self.refused(g);

@@ -1,6 +1,8 @@
 -- `run::Run::ground` meets its contract.
 -- Assumes nothing.
-use mathlib.Core.Path.{_≡_, sym, _∙_}
+use mathlib.Core.Path.{_≡_, sym, ap, _∙_}
+use Rattle.site.specs.declared.Site.{Site}
+use Rattle.site.specs.Site.{namesOf}
 use borrow.Author.Tests.{le-leb, lt-leb}
 use Rattle.run.specs.Run.{hasStopped}
 use Rattle.run.specs.Event.{isActor}
@@ -18,21 +20,15 @@ returns-2 : tie.Need-returns-2
 unfolding groundOf isActor
 returns-2 c = simp (le-leb _ _ (c .before .if1 .left), lt-leb _ _ (c .if2 .taken))
 
-cast-i : tie.Need-cast-i
-cast-i c = search needs
-
-mul-site : tie.Need-mul-site
-mul-site c = search needs
-
-element-copy-out-site : tie.Need-element-copy-out-site
-element-copy-out-site c = search needs
+site-at-requires : tie.Need-site-at-requires
+site-at-requires c κs = search needs
 
 names-requires : tie.Need-names-requires
 names-requires c κs = search needs
 
 returns-3 : tie.Need-returns-3
 unfolding groundOf isActor
-returns-3 c = simp (le-leb _ _ (c .before .before .before .before .if1 .left), le-leb _ _ (c .before .before .before .if2 .left), fails (c .before .names .ensures) (c .if3 .taken))
+returns-3 c = simp (le-leb _ _ (c .before .before .before .before .if1 .left), le-leb _ _ (c .before .before .before .if2 .left), fails (c .before .names .ensures ∙ ap (λ (x : Site). namesOf x (c .before .before .before .before .before .args .step)) (c .before .before .site-at .ensures)) (c .if3 .taken))
 
 member-requires : tie.Need-member-requires
 member-requires c κs = search needs
@@ -40,7 +36,7 @@ member-requires c κs = search needs
 returns-4 : tie.Need-returns-4
 unfolding groundOf isActor hasStopped
 returns-4 c =
-    simp (le-leb _ _ (c .before .before .before .before .before .before .if1 .left), le-leb _ _ (c .before .before .before .before .before .if2 .left), holds (c .before .before .before .names .ensures) (c .before .before .if3 .left), sym (c .before .member .ensures) ∙ c .if4 .taken)
+    simp (le-leb _ _ (c .before .before .before .before .before .before .if1 .left), le-leb _ _ (c .before .before .before .before .before .if2 .left), holds (c .before .before .before .names .ensures ∙ ap (λ (x : Site). namesOf x (c .before .before .before .before .before .before .before .args .step)) (c .before .before .before .before .site-at .ensures)) (c .before .before .if3 .left), sym (c .before .member .ensures) ∙ c .if4 .taken)
 
 is-there-requires : tie.Need-is-there-requires
 is-there-requires c κs = search needs
@@ -51,7 +47,7 @@ returns-5 c =
     simp (
       le-leb _ _ (c .before .before .before .before .before .before .before .before .if1 .left),
       le-leb _ _ (c .before .before .before .before .before .before .before .if2 .left),
-      holds (c .before .before .before .before .before .names .ensures) (c .before .before .before .before .if3 .left),
+      holds (c .before .before .before .before .before .names .ensures ∙ ap (λ (x : Site). namesOf x (c .before .before .before .before .before .before .before .before .before .args .step)) (c .before .before .before .before .before .before .site-at .ensures)) (c .before .before .before .before .if3 .left),
       sym (c .before .before .before .member .ensures) ∙ c .before .before .if4 .left,
       fails (c .before .is-there .ensures) (c .if5 .taken),
     )
@@ -62,7 +58,7 @@ returns-6 c =
     simp (
       le-leb _ _ (c .before .before .before .before .before .before .before .before .if1 .left),
       le-leb _ _ (c .before .before .before .before .before .before .before .if2 .left),
-      holds (c .before .before .before .before .before .names .ensures) (c .before .before .before .before .if3 .left),
+      holds (c .before .before .before .before .before .names .ensures ∙ ap (λ (x : Site). namesOf x (c .before .before .before .before .before .before .before .before .before .args .step)) (c .before .before .before .before .before .before .site-at .ensures)) (c .before .before .before .before .if3 .left),
       sym (c .before .before .before .member .ensures) ∙ c .before .before .if4 .left,
       holds (c .before .is-there .ensures) (c .if5 .left),
     )
@@ -73,9 +69,7 @@ ground-spec =
     (tie.spec
     returns
     returns-2
-    cast-i
-    mul-site
-    element-copy-out-site
+    site-at-requires
     names-requires
     returns-3
     member-requires

@@ -31,17 +31,8 @@ returns : tie.Need-returns
 unfolding hasStopped
 returns c = simp (c .before .before .before .step3 .given .1, fails (c .before .member .ensures) (c .if1 .taken))
 
-sub-i : tie.Need-sub-i
-sub-i c = search needs
-
-cast-i : tie.Need-cast-i
-cast-i c = search needs
-
-mul-site : tie.Need-mul-site
-mul-site c = search needs
-
-element-copy-out-site : tie.Need-element-copy-out-site
-element-copy-out-site c = search needs
+site-at-requires : tie.Need-site-at-requires
+site-at-requires c κs = search needs
 
 member-requires-2 : tie.Need-member-requires-2
 member-requires-2 c κs = search needs
@@ -63,7 +54,7 @@ returns-4 c = simp (c .before .before .step2 .given .1, c .outstanding2 .ensures
 
 returns-5 : tie.Need-returns-5
 unfolding hasStopped knows
-returns-5 c = simp (c .before .before .before .before .before .step3 .given .1, holds (c .before .before .before .member .ensures) (c .before .before .if1 .left), c .member2 .ensures)
+returns-5 c = simp (c .before .before .before .before .before .step3 .given .1, holds (c .before .before .before .member .ensures) (c .before .before .if1 .left), c .member2 .ensures, c .before .site-at .ensures)
 
 returns-6 : tie.Need-returns-6
 returns-6 c = search needs
@@ -83,10 +74,7 @@ is-there-spec =
     enum-known-step-3
     member-requires
     returns
-    sub-i
-    cast-i
-    mul-site
-    element-copy-out-site
+    site-at-requires
     member-requires-2
     enum-told-2
     enum-told-3

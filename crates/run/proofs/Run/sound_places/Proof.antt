@@ -24,9 +24,9 @@ abbrev at : List Site → ℕ → ℕ → ℕ → Bool
 at sites n stopped i = right (getD sites (i + 1 - 1) noSite) n stopped (i + 1)
 
 -- place i + 1 of the records is the one at i
-same : (sites : List Site) (n stopped i : ℕ) → right (getD sites i noSite) n stopped (i + 1) ≡ at sites n stopped i
+same : (sites : List Site) (n stopped i : ℕ) → at sites n stopped i ≡ right (getD sites i noSite) n stopped (i + 1)
 same sites n stopped i =
-    let e : i ≡ i + 1 - 1 = omega arith in
+    let e : i + 1 - 1 ≡ i = omega arith in
     ap (λ (j : ℕ). right (getD sites j noSite) n stopped (i + 1)) e
 
 abbrev Inv-loop : tie.InvT-loop
@@ -57,7 +57,8 @@ returns : tie.Need-returns Inv-loop μ-loop
 unfolding soundPlace
 returns c =
     let a = c .before .before .before .before .before .before .args .self in
-    sym (every-fails (at (a .sites) (a .n) (a .stopped)) (a .n) (c .before .before .before .before .loop .i) (omega arith) (fails (c .before .sound-place .ensures ∙ same (a .sites) (a .n) (a .stopped) (c .before .before .before .before .loop .i)) (c .if1 .taken)))
+    sym (every-fails (at (a .sites) (a .n) (a .stopped)) (a .n) (c .before .before .before .before .loop .i) (omega arith)
+    (same (a .sites) (a .n) (a .stopped) (c .before .before .before .before .loop .i) ∙ fails (c .before .sound-place .ensures) (c .if1 .taken)))
 
 add-i : tie.Need-add-i Inv-loop μ-loop
 add-i c = omega (arith, c .before .before .before .before .before .before .pre)
@@ -68,7 +69,7 @@ loop-less c = search needs
 loop-again : tie.Need-loop-again Inv-loop μ-loop
 loop-again c =
     let a = c .before .before .before .before .before .before .args .self in
-    (search needs, every-more (at (a .sites) (a .n) (a .stopped)) (c .before .before .before .before .loop .i) (c .before .before .before .before .loop .inv .1) (holds (c .before .sound-place .ensures ∙ same (a .sites) (a .n) (a .stopped) (c .before .before .before .before .loop .i)) (c .if1 .left)))
+    (search needs, every-more (at (a .sites) (a .n) (a .stopped)) (c .before .before .before .before .loop .i) (c .before .before .before .before .loop .inv .1) (same (a .sites) (a .n) (a .stopped) (c .before .before .before .before .loop .i) ∙ holds (c .before .sound-place .ensures) (c .if1 .left)))
 
 returns-2 : tie.Need-returns-2 Inv-loop μ-loop
 unfolding soundPlace

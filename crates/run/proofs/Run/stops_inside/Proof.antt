@@ -2,6 +2,8 @@
 -- Assumes nothing.
 use mathlib.Core.Path.{_≡_, sym, ap, _∙_}
 use native.Mathlib.Omega.{arith}
+use Rattle.site.specs.declared.Site.{Site}
+use Rattle.site.specs.Step.{stepOf}
 use Rattle.run.specs.Ground.{one-holds, acting}
 use Rattle.run.proofs.Events.{cut-refused, cut-accepts}
 use borrow.Author.Needs.{needs}
@@ -15,19 +17,12 @@ refused-requires : tie.Need-refused-requires
 refused-requires c κs = search needs
 
 returns : tie.Need-returns
-returns c = c .refused .ensures ∙ sym (one-holds (c .before .before .before .args .t1) (c .before .before .before .args .s) (c .before .before .before .args .step) _ (c .before .before .ground .result) (sym (c .before .before .ground .ensures)) (c .before .if1 .taken))
+returns c = c .refused .ensures ∙ sym (one-holds (c .before .before .before .args .self) (c .before .before .before .args .s) (c .before .before .before .args .step) _ (c .before .before .ground .result) (sym (c .before .before .ground .ensures)) (c .before .if1 .taken))
 
-sub-i : tie.Need-sub-i
-sub-i c = acting (c .before .before .args .t1) (c .before .before .args .s) (c .before .before .args .step) (sym (c .before .ground .ensures) ∙ c .if1 .left) .least
-
-cast-i : tie.Need-cast-i
-cast-i c = search needs
-
-mul-site : tie.Need-mul-site
-mul-site c = search needs
-
-element-copy-out-site : tie.Need-element-copy-out-site
-element-copy-out-site c = omega (arith, acting (c .before .before .args .t1) (c .before .before .args .s) (c .before .before .args .step) (sym (c .before .ground .ensures) ∙ c .if1 .left), c .before .before .pre)
+site-at-requires : tie.Need-site-at-requires
+site-at-requires c κs =
+    let h = acting (c .before .before .args .self) (c .before .before .args .s) (c .before .before .args .step) (sym (c .before .ground .ensures) ∙ c .if1 .left) in
+    (h .least, omega (arith, h .most, c .before .before .pre))
 
 step-requires : tie.Need-step-requires
 step-requires c κs = search needs
@@ -41,7 +36,7 @@ refused-requires-2 c κs = search needs
 returns-2 : tie.Need-returns-2
 returns-2 c =
     c .refused2 .ensures
-    ∙ sym (cut-refused (c .before .before .before .before .before .before .before .before .args .t1) (c .before .before .before .before .before .before .before .before .args .s) (c .before .before .before .before .before .before .before .before .args .step) (c .before .before .before .before .step .result) (c .before .before .before .before .step .ensures) (sym (c .before .before .before .before .before .before .before .ground .ensures) ∙ c .before .before .before .before .before .before .if1 .left) (c .before .before .before .before .before .before .before .before .args .x) _ (c .before .before .outcome .given .1))
+    ∙ sym (cut-refused (c .before .before .before .before .before .before .before .before .args .self) (c .before .before .before .before .before .before .before .before .args .s) (c .before .before .before .before .before .before .before .before .args .step) (c .before .before .before .before .step .result) (c .before .before .before .before .step .ensures ∙ ap (λ (x : Site). stepOf x (c .before .before .before .before .before .before .before .before .args .step)) (c .before .before .before .before .before .site-at .ensures)) (sym (c .before .before .before .before .before .before .before .ground .ensures) ∙ c .before .before .before .before .before .before .if1 .left) (c .before .before .before .before .before .before .before .before .args .x) _ (c .before .before .outcome .given .1))
 
 cut-short-requires : tie.Need-cut-short-requires
 cut-short-requires c κs = search needs
@@ -55,7 +50,7 @@ count-requires c κs = search needs
 returns-3 : tie.Need-returns-3
 returns-3 c =
     simp (c .before .before .cut-short .ensures, c .count .ensures, c .before .both .ensures)
-    (sym (cut-accepts (c .before .before .before .before .before .before .before .before .args .t1) (c .before .before .before .before .before .before .before .before .args .s) (c .before .before .before .before .before .before .before .before .args .step) (c .before .before .before .before .step .result) (c .before .before .before .before .step .ensures) (sym (c .before .before .before .before .before .before .before .ground .ensures) ∙ c .before .before .before .before .before .before .if1 .left) (c .before .before .before .before .before .before .before .before .args .x) (c .before .before .before .match .keys2)))
+    (sym (cut-accepts (c .before .before .before .before .before .before .before .before .args .self) (c .before .before .before .before .before .before .before .before .args .s) (c .before .before .before .before .before .before .before .before .args .step) (c .before .before .before .before .step .result) (c .before .before .before .before .step .ensures ∙ ap (λ (x : Site). stepOf x (c .before .before .before .before .before .before .before .before .args .step)) (c .before .before .before .before .before .site-at .ensures)) (sym (c .before .before .before .before .before .before .before .ground .ensures) ∙ c .before .before .before .before .before .before .if1 .left) (c .before .before .before .before .before .before .before .before .args .x) (c .before .before .before .match .keys2)))
 
 pub stops-inside-spec : {M : Type 1} → statement M
 stops-inside-spec =
@@ -64,10 +59,7 @@ stops-inside-spec =
     ground-requires
     refused-requires
     returns
-    sub-i
-    cast-i
-    mul-site
-    element-copy-out-site
+    site-at-requires
     step-requires
     enum-known-outcome
     refused-requires-2

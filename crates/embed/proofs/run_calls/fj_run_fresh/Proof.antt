@@ -1,0 +1,46 @@
+-- `embed::run_calls::fj_run_fresh` meets its contract.
+-- Assumes nothing.
+use borrow.Author.Tests.{eq-eqb, ne-eqb}
+use Rattle.embed.specs.RunCalls.{freshCall}
+use Rattle.embed.proofs.RunCalls.{fresh-refused, fresh-accepted}
+use borrow.Author.Needs.{needs}
+use Rattle.embed.proofs.run_calls.fj_run_fresh.Statement.{statement}
+use Rattle.embed.proofs.run_calls.fj_run_fresh.Tie as tie
+
+returns : tie.Need-returns
+unfolding freshCall
+returns c = simp (ne-eqb _ _ (c .if1 .taken))
+
+fresh-requires : tie.Need-fresh-requires
+fresh-requires c κs = search needs
+
+put-run-requires : tie.Need-put-run-requires
+put-run-requires c κs = search needs
+
+enum-known-outcome : tie.Need-enum-known-outcome
+enum-known-outcome c = search needs
+
+same-length : tie.Need-same-length
+same-length c = search needs
+
+returns-2 : tie.Need-returns-2
+returns-2 c = fresh-refused (c .before .before .before .before .before .before .before .before .before .before .before .args .n) (c .before .before .before .before .before .before .before .before .before .before .before .args .run .now) (c .before .before .before .before .before .put-run .last .0) (c .before .before .before .before .before .before .before .before .fresh .result) (c .before .before .before .before .before .before .before .before .fresh .ensures) (eq-eqb _ _ (c .before .before .before .before .before .before .before .before .before .if1 .left)) (c .before .before .before .before .before .put-run .ensures) _ (c .before .outcome .given .1)
+
+same-length-2 : tie.Need-same-length-2
+same-length-2 c = search needs
+
+returns-3 : tie.Need-returns-3
+returns-3 c = fresh-accepted (c .before .before .before .before .before .before .before .before .before .args .n) (c .before .before .before .before .before .before .before .before .before .args .run .now) (c .before .before .before .put-run .last .0) (c .before .before .before .before .before .before .fresh .result) (c .before .before .before .before .before .before .fresh .ensures) (eq-eqb _ _ (c .before .before .before .before .before .before .before .if1 .left)) (c .before .before .before .put-run .ensures) (c .match .keys2)
+
+pub fj-run-fresh-spec : {M : Type 1} → statement M
+fj-run-fresh-spec =
+    tie.close
+    (tie.spec
+    returns
+    fresh-requires
+    put-run-requires
+    enum-known-outcome
+    same-length
+    returns-2
+    same-length-2
+    returns-3)

@@ -1,0 +1,64 @@
+-- `fj_run_fresh` and `fj_run_event`: what they return, and what they leave of the slices.
+-- Assumes nothing.
+use Prim.Native.Nat.{ℕ, _+_, _*_}
+use mathlib.Core.Bool.{Bool, true, false, cond, _&&_}
+use mathlib.Core.List.{List, [], _∷_, _++_, map, flatMap}
+use lib.Dec.{eqb, ltb, leb}
+use lib.ListN.{length, getD, take, drop}
+use Rattle.run.specs.declared.Run.{Run}
+use Rattle.run.specs.declared.Ran.{Ran}
+use Rattle.run.specs.Sound.{every}
+use Rattle.run.specs.Event.{freshOf, eventOf}
+use Rattle.run.specs.declared.fields.Made.{Made}
+use Rattle.run.specs.declared.fields.Made.the-variants.{Good, Bad}
+use Rattle.run.specs.Fields.{body, eventFrom}
+use Rattle.embed.specs.Bytes.{siteBytes, siteFrom, outcomeByte, refusalOf, Left, leaves, LeftBoth, leavesBoth, called}
+
+-- ---- a run as bytes: n, stopped, eight site records, 72 bytes of network
+
+unfoldable pub runBytes : Run → List ℕ
+runBytes r = r .n ∷ r .stopped ∷ flatMap siteBytes (r .sites) ++ r .net
+
+unfoldable pub runFrom : List ℕ → Run
+runFrom l =
+    record {
+      n = getD l 0 0;
+      stopped = getD l 1 0;
+      sites = map (siteFrom l) (2 ∷ 10 ∷ 18 ∷ 26 ∷ 34 ∷ 42 ∷ 50 ∷ 58 ∷ []);
+      net = take 72 (drop 66 l);
+    }
+
+-- 1 is given where this is false: 138 bytes, with one of the five states at each of the eight places
+unfoldable pub isRun : List ℕ → Bool
+isRun l = eqb (length l) 138 && every 8 (λ (i : ℕ). leb (getD l (8 * i + 4) 0) 4)
+
+-- ---- `fj_run_fresh`
+
+-- 15 for a slice that is not 138 bytes, with nothing touched; else the fresh run's bytes, also those of a refused one
+unfoldable pub freshCall : ℕ → List ℕ → Left
+freshCall n l = cond (eqb (length l) 138) (leaves (refusalOf (freshOf n .outcome)) (runBytes (freshOf n .run))) (leaves 15 l)
+
+-- ---- `fj_run_event`
+
+-- the first three bytes of the answer: outcome, messages written, sites awaited
+unfoldable pub ranBytes : Ran → List ℕ
+ranBytes a = outcomeByte (a .outcome) ∷ a .counts .written ∷ a .counts .awaited ∷ []
+
+-- a refusal before any event: outcome 2 and zeros
+abbrev pub noEvent : ℕ → List ℕ → List ℕ → LeftBoth
+noEvent g run room = leavesBoth g run (2 ∷ 0 ∷ 0 ∷ drop 3 room)
+
+-- an event's answer, and the run's bytes as it leaves them
+abbrev pub ranLeaves : Ran → List ℕ → List ℕ → LeftBoth
+ranLeaves a run room = called (a .outcome) run (runBytes (a .run)) (ranBytes a ++ drop 3 room)
+
+-- 13 and 14 as the fields have it, then the event's own grounds
+abbrev pub happening : Made → List ℕ → List ℕ → LeftBoth
+happening (Good e) run room = ranLeaves (eventOf (runFrom run) e) run room
+happening (Bad g) run room = noEvent g run room
+
+-- 15 comes first, with nothing touched; then 1
+unfoldable pub runCall : List ℕ → ℕ → ℕ → ℕ → ℕ → ℕ → ℕ → List ℕ → LeftBoth
+runCall run k s o m v x room =
+    cond (ltb (length room) 3) (leavesBoth 15 run room)
+    (cond (isRun run) (happening (eventFrom (body k s o m v x)) run room) (noEvent 1 run room))

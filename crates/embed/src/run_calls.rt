@@ -1,0 +1,183 @@
+// Runs on bytes: a fresh run, and one event.
+
+ghost use mathlib.Core.Path.{_≡_};
+ghost use mathlib.Core.List.{_∷_, _++_, flatMap};
+ghost use Prim.Native.Nat.{_≤_};
+ghost use lib.ListN.{length, take, drop};
+ghost use Rattle.embed.specs.Bytes.{siteBytes, leaves, leavesBoth};
+ghost use Rattle.embed.specs.RunCalls.{isRun, runFrom, runBytes, freshCall, ranBytes, runCall};
+use crate::site_calls::outcome_byte;
+use crate::site_calls::put_site;
+use crate::site_calls::site_from;
+use run::Ran;
+use run::Run;
+use run::fields::Fields;
+use run::fields::Made;
+use run::fields::event_of;
+use site::Outcome;
+use site::Site;
+
+// Are these the bytes of a run?
+fn is_run(bytes: &[u8]) -> bool
+    ensures { λ r. ⌜ r ≡ isRun (now (bytes .entry)) ⌝ }
+{
+    if bytes.len() != 138 {
+        return false;
+    }
+    let mut i: usize = 0;
+    while i < 8 {
+        if 4 < bytes[8 * i + 4] {
+            return false;
+        }
+        i += 1;
+    }
+    true
+}
+
+// The network in the bytes of a run.
+fn net_from(bytes: &[u8]) -> [u8; 72]
+    requires { ⌜ length (now bytes) ≡ 138 ⌝ }
+    ensures { λ r. ⌜ r ≡ take 72 (drop 66 (now (bytes .entry))) ⌝ }
+{
+    let mut net = [0u8; 72];
+    for i in 0..72 {
+        net[i] = bytes[66 + i];
+    }
+    net
+}
+
+// The run whose bytes these are.
+fn run_from(bytes: &[u8]) -> Run
+    requires { ⌜ length (now bytes) ≡ 138 ⌝ }
+    ensures { λ r. ⌜ r ≡ runFrom (now (bytes .entry)) ⌝ }
+{
+    let sites = [
+        site_from(bytes, 2),
+        site_from(bytes, 10),
+        site_from(bytes, 18),
+        site_from(bytes, 26),
+        site_from(bytes, 34),
+        site_from(bytes, 42),
+        site_from(bytes, 50),
+        site_from(bytes, 58),
+    ];
+    let net = net_from(bytes);
+    Run {
+        n: bytes[0],
+        stopped: bytes[1],
+        sites,
+        net,
+    }
+}
+
+// Eight sites' bytes, put at the front of a part.
+fn put_sites(bytes: &mut [u8], sites: [Site; 8])
+    requires { ⌜ 64 ≤ length (now bytes) ⌝ }
+    ensures { λ _. ⌜ now (bytes .exit) ≡ flatMap siteBytes sites ++ drop 64 (now (bytes .entry)) ⌝ }
+{
+    for i in 0..8 {
+        let at = 8 * i;
+        let site = sites[i];
+        put_site(&mut bytes[at..], site);
+    }
+}
+
+// A network's bytes, put at the front of a part.
+fn put_net(bytes: &mut [u8], net: [u8; 72])
+    requires { ⌜ 72 ≤ length (now bytes) ⌝ }
+    ensures { λ _. ⌜ now (bytes .exit) ≡ net ++ drop 72 (now (bytes .entry)) ⌝ }
+{
+    for i in 0..72 {
+        bytes[i] = net[i];
+    }
+}
+
+// A run's bytes.
+fn put_run(bytes: &mut [u8], run: Run)
+    requires { ⌜ length (now bytes) ≡ 138 ⌝ }
+    ensures { λ _. ⌜ now (bytes .exit) ≡ runBytes run ⌝ }
+{
+    let sites = run.sites;
+    let net = run.net;
+    bytes[0] = run.n;
+    bytes[1] = run.stopped;
+    put_sites(&mut bytes[2..], sites);
+    put_net(&mut bytes[66..], net);
+}
+
+// The fresh run of n sites. Returns 0 or the refusal.
+#[no_mangle]
+pub extern "C" fn fj_run_fresh(n: u8, run: &mut [u8]) -> u8
+    ensures { λ r. ⌜ leaves r (now (run .exit)) ≡ freshCall n (now (run .entry)) ⌝ }
+{
+    if run.len() != 138 {
+        return 15;
+    }
+    let made = run::fresh(n);
+    let outcome = made.outcome;
+    let next = made.run;
+    put_run(run, next);
+    if let Outcome::Refused(ground) = outcome {
+        return ground;
+    }
+    0
+}
+
+// The answer of a refused event. Returns the refusal.
+fn refuse(room: &mut [u8], ground: u8) -> u8
+    requires { ⌜ 3 ≤ length (now room) ⌝ }
+    ensures { λ r. ⌜ (r ≡ ground) × (now (room .exit) ≡ 2 ∷ 0 ∷ 0 ∷ drop 3 (now (room .entry))) ⌝ }
+{
+    room[0] = 2;
+    room[1] = 0;
+    room[2] = 0;
+    ground
+}
+
+fn put_ran(room: &mut [u8], ran: Ran)
+    requires { ⌜ 3 ≤ length (now room) ⌝ }
+    ensures { λ _. ⌜ now (room .exit) ≡ ranBytes ran ++ drop 3 (now (room .entry)) ⌝ }
+{
+    let outcome = ran.outcome;
+    let counts = ran.counts;
+    room[0] = outcome_byte(outcome);
+    room[1] = counts.written;
+    room[2] = counts.awaited;
+}
+
+// One event of a run. Returns 0 or the refusal.
+#[no_mangle]
+pub extern "C" fn fj_run_event(
+    run: &mut [u8],
+    k: u8,
+    s: u8,
+    o: u8,
+    m: u8,
+    v: u8,
+    x: u8,
+    answer: &mut [u8],
+) -> u8
+    ensures { λ r. ⌜ leavesBoth r (now (run .exit)) (now (answer .exit)) ≡ runCall (now (run .entry)) k s o m v x (now (answer .entry)) ⌝ }
+{
+    if answer.len() < 3 {
+        return 15;
+    }
+    if !is_run(run) {
+        return refuse(answer, 1);
+    }
+    let made = event_of(Fields { k, s, o, m, v, x });
+    match made {
+        Made::Good(event) => {
+            let ran = run_from(run).happens(event);
+            put_ran(answer, ran);
+            let outcome = ran.outcome;
+            if let Outcome::Refused(ground) = outcome {
+                return ground;
+            }
+            let next = ran.run;
+            put_run(run, next);
+            0
+        }
+        Made::Bad(ground) => refuse(answer, ground),
+    }
+}

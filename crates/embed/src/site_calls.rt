@@ -1,0 +1,181 @@
+// A single site step on bytes.
+
+ghost use mathlib.Core.Path.{_≡_};
+ghost use mathlib.Core.List.{_++_};
+ghost use Prim.Native.Nat.{_+_, _≤_};
+ghost use lib.ListN.{length, drop};
+ghost use Rattle.embed.specs.Bytes.{stateByte, stateFrom, siteBytes, siteFrom, outcomeByte, leavesBoth};
+ghost use Rattle.embed.specs.SiteCall.{refusal, isRecord, siteAnswer, answerBytes, siteCall};
+use run::Event;
+use run::fields::Fields;
+use run::fields::Made;
+use run::fields::event_of;
+use site::Answer;
+use site::Counts;
+use site::Outcome;
+use site::Site;
+use site::State;
+
+pub fn state_byte(state: State) -> u8
+    ensures { λ r. ⌜ r ≡ stateByte state ⌝ }
+{
+    match state {
+        State::Q => 0,
+        State::W => 1,
+        State::P => 2,
+        State::A => 3,
+        State::C => 4,
+    }
+}
+
+pub fn state_from(b: u8) -> State
+    ensures { λ r. ⌜ r ≡ stateFrom b ⌝ }
+{
+    match b {
+        0 => State::Q,
+        1 => State::W,
+        2 => State::P,
+        3 => State::A,
+        _ => State::C,
+    }
+}
+
+pub fn outcome_byte(outcome: Outcome) -> u8
+    ensures { λ r. ⌜ r ≡ outcomeByte outcome ⌝ }
+{
+    match outcome {
+        Outcome::Taken => 0,
+        Outcome::Passed => 1,
+        Outcome::Refused(_) => 2,
+    }
+}
+
+// The site whose bytes stand at a place.
+pub fn site_from(bytes: &[u8], at: usize) -> Site
+    requires { ⌜ at + 8 ≤ length (now bytes) ⌝ }
+    ensures { λ r. ⌜ r ≡ siteFrom (now (bytes .entry)) at ⌝ }
+{
+    Site {
+        n: bytes[at],
+        number: bytes[at + 1],
+        state: state_from(bytes[at + 2]),
+        leader: bytes[at + 3],
+        known: bytes[at + 4],
+        yes: bytes[at + 5],
+        no: bytes[at + 6],
+        acked: bytes[at + 7],
+    }
+}
+
+// A site's bytes, put at the front of a part.
+pub fn put_site(bytes: &mut [u8], site: Site)
+    requires { ⌜ 8 ≤ length (now bytes) ⌝ }
+    ensures { λ _. ⌜ now (bytes .exit) ≡ siteBytes site ++ drop 8 (now (bytes .entry)) ⌝ }
+{
+    let state = site.state;
+    bytes[0] = site.n;
+    bytes[1] = site.number;
+    bytes[2] = state_byte(state);
+    bytes[3] = site.leader;
+    bytes[4] = site.known;
+    bytes[5] = site.yes;
+    bytes[6] = site.no;
+    bytes[7] = site.acked;
+}
+
+fn refused(ground: u8) -> Answer
+    ensures { λ r. ⌜ r ≡ refusal ground ⌝ }
+{
+    Answer {
+        site: Site {
+            n: 0,
+            number: 0,
+            state: State::Q,
+            leader: 0,
+            known: 0,
+            yes: 0,
+            no: 0,
+            acked: 0,
+        },
+        outcome: Outcome::Refused(ground),
+        kind: 0,
+        to: 0,
+        counts: Counts {
+            written: 0,
+            awaited: 0,
+        },
+    }
+}
+
+// Are these the bytes of a record?
+fn is_record(bytes: &[u8]) -> bool
+    ensures { λ r. ⌜ r ≡ isRecord (now (bytes .entry)) ⌝ }
+{
+    if bytes.len() != 8 {
+        return false;
+    }
+    bytes[2] <= 4
+}
+
+// The answer of the step that K, O, M and V tell, taken by the site whose bytes these are.
+fn site_answer(bytes: &[u8], k: u8, o: u8, m: u8, v: u8) -> Answer
+    ensures { λ r. ⌜ r ≡ siteAnswer (now (bytes .entry)) k o m v ⌝ }
+{
+    if !is_record(bytes) {
+        return refused(1);
+    }
+    if k < 1 {
+        return refused(13);
+    }
+    if 5 < k {
+        return refused(13);
+    }
+    let made = event_of(Fields {
+        k,
+        s: 0,
+        o,
+        m,
+        v,
+        x: 0,
+    });
+    match made {
+        Made::Good(event) => match event {
+            Event::Act(_, step) => site_from(bytes, 0).step(step),
+            Event::Stop(_) => refused(13),
+            Event::Cut(_, _, _) => refused(13),
+        },
+        Made::Bad(ground) => refused(ground),
+    }
+}
+
+fn put_answer(room: &mut [u8], answer: Answer)
+    requires { ⌜ 5 ≤ length (now room) ⌝ }
+    ensures { λ _. ⌜ now (room .exit) ≡ answerBytes answer ++ drop 5 (now (room .entry)) ⌝ }
+{
+    let outcome = answer.outcome;
+    let counts = answer.counts;
+    room[0] = outcome_byte(outcome);
+    room[1] = answer.kind;
+    room[2] = answer.to;
+    room[3] = counts.written;
+    room[4] = counts.awaited;
+}
+
+// One step of a site. Returns 0 or the refusal.
+#[no_mangle]
+pub extern "C" fn fj_site_step(site: &mut [u8], k: u8, o: u8, m: u8, v: u8, answer: &mut [u8]) -> u8
+    ensures { λ r. ⌜ leavesBoth r (now (site .exit)) (now (answer .exit)) ≡ siteCall (now (site .entry)) k o m v (now (answer .entry)) ⌝ }
+{
+    if answer.len() < 5 {
+        return 15;
+    }
+    let given = site_answer(site, k, o, m, v);
+    put_answer(answer, given);
+    let outcome = given.outcome;
+    if let Outcome::Refused(ground) = outcome {
+        return ground;
+    }
+    let next = given.site;
+    put_site(site, next);
+    0
+}
