@@ -6,8 +6,8 @@ use mathlib.Core.Logic.{_≢_, _⊎_, inl, inr, ⊎-elim}
 use native.Mathlib.Decide.{ℕ-discrete}
 use native.Mathlib.Omega.{arith}
 use Rattle.site.specs.declared.State.{State}
-use Rattle.promise.specs.Classes.{Kind, Yes, MoveP, MoveW, Ack, IsQ, IsW, IsA, IsC, PC, QW, QWA, Order, Prepares, IsCommit, IsAbort, Stands, Relies, First, Leads, Onward, onward-stands, onward-first, onward-relies, qw-not-a, qwa-not-c, pc-not-a, pc-not-qw, q-in-qw, a-in-qwa, c-in-pc}
-use Rattle.promise.specs.View.{View, Evidence, seen, told, EP, EA, EC, Open, Lead, Lowest, Mute, MayPrepare, MayAbort, MayCommit, nobody, Inv}
+use Rattle.promise.specs.Classes.{Kind, MoveP, MoveW, Ack, IsQ, IsW, IsA, IsC, PC, QW, QWA, Prepares, IsCommit, IsAbort, Stands, Relies, First, Leads, Onward, onward-stands, onward-first, onward-relies, qw-not-a, qwa-not-c, pc-not-a, pc-not-qw, q-in-qw, a-in-qwa, c-in-pc}
+use Rattle.promise.specs.View.{View, Evidence, seen, told, EP, EA, EC, Open, Lead, Mute, MayPrepare, MayAbort, MayCommit, nobody, Inv}
 use Rattle.promise.specs.Less.{Votes}
 
 pick : {T : Type 0} {i j : ℕ} → Dec (i ≡ j) → T → T → T

@@ -1,7 +1,7 @@
 -- States and kinds of message in classes: each class is a type that is empty outside it, so that what a class rules out computes away.
 -- Assumes nothing.
-use Prim.Native.Nat.{ℕ, _≤_, _<_}
-use mathlib.Core.Path.{_≡_}
+use Prim.Native.Nat.{ℕ, _≤_}
+use mathlib.Core.Path.{_≡_, refl}
 use Rattle.site.specs.declared.State.{State}
 use Rattle.site.specs.declared.State.the-variants.{Q, W, P, A, C}
 
@@ -263,3 +263,50 @@ rest-in-qwa W x = tt
 rest-in-qwa P x = x tt
 rest-in-qwa A x = tt
 rest-in-qwa C x = x tt
+
+pub w-in-qw : (s : State) → IsW s → QW s
+w-in-qw Q x = tt
+w-in-qw W x = tt
+w-in-qw P x = x
+w-in-qw A x = x
+w-in-qw C x = x
+
+-- The states that are never left.
+abbrev pub Final : State → Type 0
+Final s = byState ⊥ ⊥ ⊥ Unit Unit s
+
+pub a-final : (s : State) → IsA s → Final s
+a-final Q x = x
+a-final W x = x
+a-final P x = x
+a-final A x = x
+a-final C x = tt
+
+pub c-final : (s : State) → IsC s → Final s
+c-final Q x = x
+c-final W x = x
+c-final P x = x
+c-final A x = tt
+c-final C x = x
+
+-- A class of one state.
+pub is-w : (s : State) → IsW s → s ≡ W
+is-w Q x = absurd x
+is-w W x = refl
+is-w P x = absurd x
+is-w A x = absurd x
+is-w C x = absurd x
+
+pub is-a : (s : State) → IsA s → s ≡ A
+is-a Q x = absurd x
+is-a W x = absurd x
+is-a P x = absurd x
+is-a A x = refl
+is-a C x = absurd x
+
+pub is-c : (s : State) → IsC s → s ≡ C
+is-c Q x = absurd x
+is-c W x = absurd x
+is-c P x = absurd x
+is-c A x = absurd x
+is-c C x = refl

@@ -1,14 +1,28 @@
--- Sums over the first numbers, and how many sites are in a set.
+-- Numbers of sites, sums over the first numbers, and how many sites are in a set.
 -- Assumes nothing.
 use Prim.Native.Nat.{ℕ, zero, suc, _+_, _-_, _≤_, _<_}
-use mathlib.Core.Bool.{Bool, true, false}
-use mathlib.Core.Path.{_≡_, refl, sym, ap, _∙_}
+use mathlib.Core.Bool.{false}
+use mathlib.Core.Path.{_≡_, refl, sym, ap}
 use mathlib.Core.Logic.{_≢_, _⊎_, inl, inr, ⊎-elim}
 use native.Mathlib.Decide.{ℕ-discrete}
 use native.Mathlib.Omega.{arith}
 use Rattle.sets.specs.Sets.{has, union, without}
 use Rattle.sets.specs.SetLaws.{has-site, one-if, members}
-use Rattle.promise.specs.SetsMembers.{In, is-not, in?, union-in, without-in, without-out}
+use Rattle.sets.specs.Truths.{clash}
+use Rattle.promise.specs.SetsMembers.{In, in?, union-in, without-in, without-out}
+
+-- What holds of 2, 3, .. and 8 holds of each number of sites.
+pub by-size : (M : ℕ → Type 0) → M 2 → M 3 → M 4 → M 5 → M 6 → M 7 → M 8 → (n : ℕ) → 2 ≤ n → n ≤ 8 → M n
+by-size M a b c d e f g zero p q = absurd (omega arith)
+by-size M a b c d e f g (suc zero) p q = absurd (omega arith)
+by-size M a b c d e f g (suc (suc zero)) p q = a
+by-size M a b c d e f g (suc (suc (suc zero))) p q = b
+by-size M a b c d e f g (suc (suc (suc (suc zero)))) p q = c
+by-size M a b c d e f g (suc (suc (suc (suc (suc zero))))) p q = d
+by-size M a b c d e f g (suc (suc (suc (suc (suc (suc zero)))))) p q = e
+by-size M a b c d e f g (suc (suc (suc (suc (suc (suc (suc zero))))))) p q = f
+by-size M a b c d e f g (suc (suc (suc (suc (suc (suc (suc (suc zero)))))))) p q = g
+by-size M a b c d e f g (suc (suc (suc (suc (suc (suc (suc (suc (suc n))))))))) p q = absurd (omega arith)
 
 -- f 0 + .. + f (n - 1)
 unfoldable pub sum : ℕ → (ℕ → ℕ) → ℕ
@@ -65,7 +79,7 @@ members-union a b (suc w) = go (members-union a b w) (spot (union a b) (suc w)) 
     go ih (inr p) q r = omega arith
     go ih (inl p) (inl q) r = omega arith
     go ih (inl p) (inr q) (inl r) = omega arith
-    go ih (inl p) (inr q) (inr r) = absurd (⊎-elim (λ h. is-not (has a (suc w)) h (q .1)) (λ h. is-not (has b (suc w)) h (r .1)) (union-in a b (suc w) (p .1)))
+    go ih (inl p) (inr q) (inr r) = absurd (⊎-elim (λ h. clash h (q .1)) (λ h. clash h (r .1)) (union-in a b (suc w) (p .1)))
 
 pub members-le : (a b w : ℕ) → ((i : ℕ) → In a i → In b i) → members a w ≤ members b w
 unfolding members
@@ -77,7 +91,7 @@ members-le a b (suc w) h = go (members-le a b w h) (spot a (suc w)) (spot b (suc
         → members a w + one-if (has a (suc w)) ≤ members b w + one-if (has b (suc w))
     go ih (inr p) q = omega arith
     go ih (inl p) (inl q) = omega arith
-    go ih (inl p) (inr q) = absurd (is-not (has b (suc w)) (h (suc w) (p .1)) (q .1))
+    go ih (inl p) (inr q) = absurd (clash (h (suc w) (p .1)) (q .1))
 
 -- a member taken out
 pub members-without : (m j w : ℕ) → In m j → 1 ≤ j → j ≤ w → members (without m j) w + 1 ≤ members m w
@@ -91,9 +105,9 @@ members-without m j (suc w) x p q = go (λ l. members-without m j w x p l) (ℕ-
         → members (without m j) w + one-if (has (without m j) (suc w)) + 1 ≤ members m w + one-if (has m (suc w))
     go r (yes e) (inl a) b = absurd (without-out m j (suc w) (a .1) (sym e))
     go r (yes e) (inr a) (inl b) = omega (arith, members-le (without m j) m w (without-in m j))
-    go r (yes e) (inr a) (inr b) = absurd (is-not (has m (suc w)) (rw e at x) (b .1))
+    go r (yes e) (inr a) (inr b) = absurd (clash (rw e at x) (b .1))
     go r (no e) (inl a) (inl b) = omega (arith, r (omega arith))
-    go r (no e) (inl a) (inr b) = absurd (is-not (has m (suc w)) (without-in m j (suc w) (a .1)) (b .1))
+    go r (no e) (inl a) (inr b) = absurd (clash (without-in m j (suc w) (a .1)) (b .1))
     go r (no e) (inr a) b = omega (arith, r (omega arith))
 
 -- members only above k and up to n

@@ -1,6 +1,6 @@
 -- Two runs of every size: one in which all sites commit, with the messages of 01's worked example, and one that accepts as many events as any can.
 -- Assumes nothing.
-use Prim.Native.Nat.{ℕ, zero, suc, _+_, _-_, _*_, _^_, _≤_, _<_}
+use Prim.Native.Nat.{ℕ, zero, suc, _+_, _-_, _*_, _^_, _≤_}
 use mathlib.Core.Bool.{Bool, true, false, _&&_, false≢true}
 use mathlib.Core.List.{List, [], _∷_, _++_}
 use mathlib.Core.Path.{_≡_, refl, ap, _∙_}
@@ -18,7 +18,6 @@ use Rattle.site.specs.Site.{soundOf, endsOf, toAll, inRun, polls, collects, awa
 use Rattle.site.specs.First.{beginOf, startOf, voteOf, tallyOf}
 use Rattle.site.specs.Leader.{obeyOf, ackOf, takeOverOf, settleOf}
 use Rattle.site.specs.Step.{noticeOf, concludeOf, deliverOf, doneOf, answered, stepOf}
-use Rattle.run.specs.declared.Run.{Run}
 use Rattle.run.specs.declared.Event.{Event}
 use Rattle.run.specs.declared.Event.the-variants.{Act, Stop}
 use Rattle.run.specs.Run.{isKind, place, stateOf, knows, outstanding, hasStopped, takenOut, sentBy, stoppedAt, freshRun}
@@ -27,6 +26,7 @@ use Rattle.run.specs.SoundLaws.{every-at}
 use Rattle.run.specs.Event.{freshOf, isActor, acted, cutShort, grounded, stopped, happened, eventOf}
 use Rattle.run.specs.After.{Tale, acceptedBy, onward, told, opening, after}
 use Rattle.run.specs.GoodRuns.{Good, good-kept, fresh-good}
+use Rattle.promise.specs.Count.{by-size}
 
 -- ---- the runs
 
@@ -58,19 +58,6 @@ pub longest : ℕ → List Event
 longest n = preparing n ++ Stop 1 ∷ turns (leading n) 2 (n - 1)
 
 -- ---- what becomes of them, run by run
-
--- what holds of each number of sites holds of all
-pub by-size : (M : ℕ → Type 0) → M 2 → M 3 → M 4 → M 5 → M 6 → M 7 → M 8 → (n : ℕ) → 2 ≤ n → n ≤ 8 → M n
-by-size M a b c d e f g zero p q = absurd (omega arith)
-by-size M a b c d e f g (suc zero) p q = absurd (omega arith)
-by-size M a b c d e f g (suc (suc zero)) p q = a
-by-size M a b c d e f g (suc (suc (suc zero))) p q = b
-by-size M a b c d e f g (suc (suc (suc (suc zero)))) p q = c
-by-size M a b c d e f g (suc (suc (suc (suc (suc zero))))) p q = d
-by-size M a b c d e f g (suc (suc (suc (suc (suc (suc zero)))))) p q = e
-by-size M a b c d e f g (suc (suc (suc (suc (suc (suc (suc zero))))))) p q = f
-by-size M a b c d e f g (suc (suc (suc (suc (suc (suc (suc (suc zero)))))))) p q = g
-by-size M a b c d e f g (suc (suc (suc (suc (suc (suc (suc (suc (suc n))))))))) p q = absurd (omega arith)
 
 abbrev isC : State → Bool
 isC Q = false

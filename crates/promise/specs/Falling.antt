@@ -1,17 +1,17 @@
 -- Every accepted event lowers the potential, so that only so many events are accepted.
 -- Assumes nothing.
-use Prim.Native.Nat.{ℕ, zero, suc, _+_, _-_, _*_, _/_, _^_, _≤_, _<_}
-use mathlib.Core.Bool.{Bool, true, false, cond, not, _&&_}
+use Prim.Native.Nat.{ℕ, _+_, _-_, _*_, _/_, _^_, _≤_}
+use mathlib.Core.Bool.{Bool, true, false, not, _&&_}
 use mathlib.Core.List.{List, [], _∷_}
 use mathlib.Core.Path.{_≡_, refl, sym, ap, subst, _∙_}
 use mathlib.Core.Logic.{_≢_, _⊎_, inl, inr, ⊎-elim}
-use native.Mathlib.Decide.{ℕ-discrete, decLt}
+use native.Mathlib.Decide.{ℕ-discrete}
 use native.Mathlib.Omega.{arith}
-use lib.Dec.{eqb, leb, lit≤}
-use lib.ListN.{length, set, length-map}
-use borrow.Author.Tests.{eqb-false, leb-true, not-true}
-use Rattle.sets.specs.Sets.{has, both, minus, withSite, without}
-use Rattle.sets.specs.SetLaws.{Site, has-with, members}
+use lib.Dec.{eqb, lit≤}
+use lib.ListN.{length, length-map}
+use borrow.Author.Tests.{eqb-false, not-true}
+use Rattle.sets.specs.Sets.{has, both, minus, withSite}
+use Rattle.sets.specs.SetLaws.{members}
 use Rattle.site.specs.declared.Outcome.{Outcome}
 use Rattle.site.specs.declared.Outcome.the-variants.{Taken, Passed, Refused}
 use Rattle.site.specs.declared.Step.{Step}
@@ -23,50 +23,31 @@ use Rattle.site.specs.Step.{ruleOf}
 use Rattle.run.specs.declared.Run.{Run}
 use Rattle.run.specs.declared.Event.{Event}
 use Rattle.run.specs.declared.Event.the-variants.{Act, Stop, Cut}
-use Rattle.run.specs.declared.Ran.{Ran}
 use Rattle.run.specs.Run.{siteAt, outstanding, hasStopped, knows, takenOut, stoppedAt}
 use Rattle.run.specs.Event.{isThere, delivered, eventOf}
 use Rattle.run.specs.After.{Tale, acceptedBy, onward, told, opening, after}
-use Rattle.promise.specs.SetsMembers.{In, and-l, and-r, in-none, minus-in, both-l, in-with, with-in, in-with-new, not-not, is-not, in?}
-use Rattle.promise.specs.RunViews.{Shaped, recordOf, record-at, replaced, others, Runs, Out, stoppedNet, sentNet}
-use Rattle.promise.specs.RunSound.{Good, good}
-use Rattle.promise.specs.RunEvents.{Accepted, Allowed, Denied, Halted, Unhalted, decide, decide-stop}
-use Rattle.promise.specs.Classes.{Kind}
-use Rattle.promise.specs.View.{View, Inv}
-use Rattle.promise.specs.Does.{Uses}
+use Rattle.sets.specs.Truths.{and-l, and-r}
+use Rattle.promise.specs.SetsMembers.{In, minus-in, both-l, in-with, with-in, in-with-new}
+use Rattle.promise.specs.RunViews.{recordOf, record-at, replaced, others, Runs, stoppedNet, sentNet}
+use Rattle.run.specs.Sound.{Sound}
+use Rattle.run.specs.SoundLaws.{sound-parts}
+use Rattle.promise.specs.RunEvents.{Allowed, Denied, Halted, Unhalted, decide, decide-stop}
 use Rattle.promise.specs.Seen.{number, viewOf, wholeRun, partRun}
-use Rattle.promise.specs.Stepping.{Stepped, weigh, worth, feeOf, in-run, Notices}
-use Rattle.promise.specs.Keeping.{Held, Now, With, delivered-net, delivered-len, sound, s8, K, seen, kinds, whole-run, part-run, keeps}
-use Rattle.promise.specs.Count.{members-above, members-only, members-none, members-some}
+use Rattle.promise.specs.Brings.{Notices, weigh, netWorth, newsWorth}
+use Rattle.promise.specs.Stepping.{in-run, Stepped}
+use Rattle.promise.specs.Keeping.{Held, Now, With, delivered-len, sound, s8, K, seen, kinds, whole-run, part-run, keeps}
+use Rattle.promise.specs.Count.{by-size, members-above, members-only, members-none, members-some}
 use Rattle.promise.specs.Measure.{own, falls}
 use Rattle.promise.specs.Potential.{messages, messages-sent, messages-taken, messages-halted, messages-stopped, partOf, parts, part-runs, part-stopped, parts-at, pairs, pairs-le, pairs-learn, potential, potential-is, fresh-potential}
 use Rattle.promise.specs.Fresh.{nothing, fresh-held, fresh-is}
 
--- what a delivery takes out of the network
-abbrev netWorth : Step → ℕ
-netWorth (step.Begin v) = 0
-netWorth (step.Start from v) = weigh 1
-netWorth (step.Deliver K from) = weigh K
-netWorth (step.Notice o) = 0
-netWorth step.TakeOver = 0
-netWorth step.Conclude = 0
-
--- what a notice takes out of the pairs
-abbrev newsWorth : Step → ℕ
-newsWorth (step.Begin v) = 0
-newsWorth (step.Start from v) = 0
-newsWorth (step.Deliver K from) = 0
-newsWorth (step.Notice o) = 1
-newsWorth step.TakeOver = 0
-newsWorth step.Conclude = 0
-
-worth-split : (t : Step) → (worth t ≡ netWorth t + newsWorth t) × (newsWorth t ≤ 1)
-worth-split (step.Begin v) = (refl, omega arith)
-worth-split (step.Start from v) = (refl, omega arith)
-worth-split (step.Deliver K from) = (omega arith, omega arith)
-worth-split (step.Notice o) = (refl, omega arith)
-worth-split step.TakeOver = (refl, omega arith)
-worth-split step.Conclude = (refl, omega arith)
+news-one : (t : Step) → newsWorth t ≤ 1
+news-one (step.Begin v) = omega arith
+news-one (step.Start from v) = omega arith
+news-one (step.Deliver K from) = omega arith
+news-one (step.Notice o) = omega arith
+news-one step.TakeOver = omega arith
+news-one step.Conclude = omega arith
 
 module _ (r : Run) (len : length (r .net) ≡ 72) (s : ℕ) where
   pub net-delivered : (t : Step) → isThere r s t ≡ true → messages (delivered r s t .net) + netWorth t ≤ messages (r .net)
@@ -114,6 +95,16 @@ module _ (r : Run) (s : ℕ) (x : Runs r s) (n8 : r .n ≤ 8) (net : List ℕ) w
 
 -- Site s takes a step.
 module _ (w : ℕ → Type 0) (r : Run) (h : Held w r) (s : ℕ) (t : Step) (al : Allowed r s t) where
+  good : Sound r
+  good = sound w r h s t al
+
+  most : s ≤ 8
+  most = s8 w r h s t al
+
+  -- the kind of what is written
+  abbrev kind : ℕ
+  kind = K w r h s t al
+
   abbrev z : Record
   z = siteAt r s
 
@@ -127,7 +118,7 @@ module _ (w : ℕ → Type 0) (r : Run) (h : Held w r) (s : ℕ) (t : Step) (al 
   here = record-at r s (al .runs .least)
 
   s-in : s ≤ length (r .sites)
-  s-in = omega (arith, h .shape .sites, s8 w r h s t al)
+  s-in = omega (arith, h .shape .sites, most)
 
   -- what a running site may still do, before
   abbrev before : ℕ
@@ -135,17 +126,17 @@ module _ (w : ℕ → Type 0) (r : Run) (h : Held w r) (s : ℕ) (t : Step) (al 
 
   -- messages to a part m of the sites that the step writes to
   module _ (m : ℕ) (sub : (i : ℕ) → In m i → In (d .to) i) where
-    weight : weigh (K w r h s t al) * members m 8 ≡ weigh (number (y .κ)) * members m 8
+    weight : weigh kind * members m 8 ≡ weigh (number (y .κ)) * members m 8
     weight = go (members-some m 8)
       where
-        go : (members m 8 ≡ 0) ⊎ ((i : ℕ) × In m i) → weigh (K w r h s t al) * members m 8 ≡ weigh (number (y .κ)) * members m 8
-        go (inl e) = rw e (zero-times (weigh (K w r h s t al)) (weigh (number (y .κ))))
+        go : (members m 8 ≡ 0) ⊎ ((i : ℕ) × In m i) → weigh kind * members m 8 ≡ weigh (number (y .κ)) * members m 8
+        go (inl e) = rw e (zero-times (weigh kind) (weigh (number (y .κ))))
           where
             zero-times : (a b : ℕ) → a * 0 ≡ b * 0
             zero-times a b = omega arith
         go (inr x) = ap (λ (k : ℕ). weigh k * members m 8) (kinds w r h s t al (x .0) (sub (x .0) (x .1)))
 
-    lowers : own (r .n) s (d .site .state) (d .site .leader) + weigh (K w r h s t al) * members m 8 + 1 ≤ before + worth t
+    lowers : own (r .n) s (d .site .state) (d .site .leader) + weigh kind * members m 8 + 1 ≤ before + (netWorth t + newsWorth t)
     lowers =
         omega (
           arith,
@@ -158,7 +149,7 @@ module _ (w : ℕ → Type 0) (r : Run) (h : Held w r) (s : ℕ) (t : Step) (al 
   -- ---- whole
 
   abbrev q : Run
-  q = wholeRun r (delivered r s t .net) s (d .site) (K w r h s t al) (minus (d .to) (r .stopped))
+  q = wholeRun r (delivered r s t .net) s (d .site) kind (minus (d .to) (r .stopped))
 
   new : recordOf (q .sites) s ≡ d .site
   new = replaced (r .sites) s (d .site) (al .runs .least) s-in
@@ -204,10 +195,10 @@ module _ (w : ℕ → Type 0) (r : Run) (h : Held w r) (s : ℕ) (t : Step) (al 
       noticed : (1 ≤ o) × (o ≤ r .n)
       noticed =
           let i = in-run z o (and-l (inRun z o) (not (eqb o (z .number))) names) in
-          (i .0, rw (sound w r h s t al .sites s (al .runs .least) (al .runs .most)) at (i .1))
+          (i .0, rw (good .places s (al .runs .least) (al .runs .most) .sites) at (i .1))
 
       other : o ≢ s
-      other f = eqb-false o (z .number) (not-true (eqb o (z .number)) (and-r (inRun z o) (not (eqb o (z .number))) names)) (f ∙ sym (sound w r h s t al .number s (al .runs .least) (al .runs .most)))
+      other f = eqb-false o (z .number) (not-true (eqb o (z .number)) (and-r (inRun z o) (not (eqb o (z .number))) names)) (f ∙ sym (good .places s (al .runs .least) (al .runs .most) .number))
 
   pub whole-falls : potential (eventOf r (Act s t) .run) + 1 ≤ potential r
   whole-falls =
@@ -216,11 +207,10 @@ module _ (w : ℕ → Type 0) (r : Run) (h : Held w r) (s : ℕ) (t : Step) (al 
         arith,
         potential-is q,
         potential-is r,
-        messages-sent (delivered r s t .net) (delivered-len r s t (h .shape)) (K w r h s t al) s (minus (d .to) (r .stopped)),
+        messages-sent (delivered r s t .net) (delivered-len r s t (h .shape)) kind s (minus (d .to) (r .stopped)),
         net-delivered r (h .shape .net) s t (al .there),
         parts-whole,
         news t refl,
-        worth-split t,
         lowers (minus (d .to) (r .stopped)) (minus-in (d .to) (r .stopped)),
       ))
 
@@ -231,13 +221,13 @@ module _ (w : ℕ → Type 0) (r : Run) (h : Held w r) (s : ℕ) (t : Step) (al 
       rw (part-run w r h s t al x)
       (omega (
         arith,
-        potential-is (partRun r s (K w r h s t al) (minus (both (d .to) x) (withSite (r .stopped) s))),
+        potential-is (partRun r s kind (minus (both (d .to) x) (withSite (r .stopped) s))),
         potential-is r,
-        messages-sent (stoppedNet (r .net) s) (length-map (r .net) _ ∙ h .shape .net) (K w r h s t al) s (minus (both (d .to) x) (withSite (r .stopped) s)),
+        messages-sent (stoppedNet (r .net) s) (length-map (r .net) _ ∙ h .shape .net) kind s (minus (both (d .to) x) (withSite (r .stopped) s)),
         net-halted r (h .shape .net) s t (al .there),
-        parts-gone r s (al .runs) (sound w r h s t al .most) (sentNet (stoppedNet (r .net) s) (K w r h s t al) s (minus (both (d .to) x) (withSite (r .stopped) s))),
-        pairs-gone r s (al .runs) (sound w r h s t al .most) (sentNet (stoppedNet (r .net) s) (K w r h s t al) s (minus (both (d .to) x) (withSite (r .stopped) s))),
-        worth-split t,
+        parts-gone r s (al .runs) (good .most) (sentNet (stoppedNet (r .net) s) kind s (minus (both (d .to) x) (withSite (r .stopped) s))),
+        pairs-gone r s (al .runs) (good .most) (sentNet (stoppedNet (r .net) s) kind s (minus (both (d .to) x) (withSite (r .stopped) s))),
+        news-one t,
         lowers (minus (both (d .to) x) (withSite (r .stopped) s)) (λ i y. both-l (d .to) x i (minus-in (both (d .to) x) (withSite (r .stopped) s) i y)),
       ))
 
@@ -261,7 +251,7 @@ module _ (w : ℕ → Type 0) (r : Run) (h : Held w r) where
       halted n = rw (n .done) (unfold stoppedAt in lower)
         where
           most : r .n ≤ 8
-          most = good r (n .sound) .most
+          most = sound-parts r (h .shape) (n .sound) .most
 
           lower : 1 + potential (gone r s (n .runs) most (stoppedNet (r .net) s)) ≤ potential r
           lower =
@@ -281,18 +271,12 @@ told-falls w t (e ∷ es) h = omega (arith, told-falls (With w (Now (t .run) e))
 
 -- ---- from fresh
 
--- the bound of demand 3 is no lower than the potential of a fresh run
-pub within-bound : (n : ℕ) → 2 ≤ n → n ≤ 8 → 2 * n ^ 2 + 3 * n - 1 ≤ 5 * (n - 1) + 3 * (n - 1) * (n - 2) / 2 + (n + 1) ^ 2
-within-bound zero p q = absurd (omega arith)
-within-bound (suc zero) p q = absurd (omega arith)
-within-bound (suc (suc zero)) p q = lit≤ tt
-within-bound (suc (suc (suc zero))) p q = lit≤ tt
-within-bound (suc (suc (suc (suc zero)))) p q = lit≤ tt
-within-bound (suc (suc (suc (suc (suc zero))))) p q = lit≤ tt
-within-bound (suc (suc (suc (suc (suc (suc zero)))))) p q = lit≤ tt
-within-bound (suc (suc (suc (suc (suc (suc (suc zero))))))) p q = lit≤ tt
-within-bound (suc (suc (suc (suc (suc (suc (suc (suc zero)))))))) p q = lit≤ tt
-within-bound (suc (suc (suc (suc (suc (suc (suc (suc (suc n))))))))) p q = absurd (omega arith)
+-- the bound of demand 3, and that it is no lower than the potential of a fresh run
+abbrev demanded : ℕ → ℕ
+demanded n = 5 * (n - 1) + 3 * (n - 1) * (n - 2) / 2 + (n + 1) ^ 2
+
+pub within-bound : (n : ℕ) → 2 ≤ n → n ≤ 8 → 2 * n ^ 2 + 3 * n - 1 ≤ demanded n
+within-bound = by-size (λ n. 2 * n ^ 2 + 3 * n - 1 ≤ demanded n) (lit≤ tt) (lit≤ tt) (lit≤ tt) (lit≤ tt) (lit≤ tt) (lit≤ tt) (lit≤ tt)
 
 pub accepted-bound : (n : ℕ) → 2 ≤ n → n ≤ 8 → (es : List Event) → after n es .accepted ≤ 2 * n ^ 2 + 3 * n - 1
 unfolding after opening

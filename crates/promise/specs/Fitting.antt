@@ -1,14 +1,14 @@
 -- The changes of one site that the rules make, each fit for the invariant.
 -- Assumes nothing.
 use Prim.Native.Nat.{ℕ, _≤_, _<_}
-use mathlib.Core.Path.{_≡_, refl, sym, subst}
-use mathlib.Core.Logic.{_≢_, _⊎_, inl, inr, ⊎-elim}
-use native.Mathlib.Decide.{ℕ-discrete, decLt}
+use mathlib.Core.Path.{_≡_, subst}
+use mathlib.Core.Logic.{_≢_, _⊎_, inr, ⊎-elim}
+use native.Mathlib.Decide.{decLt}
 use native.Mathlib.Omega.{arith}
 use Rattle.site.specs.declared.State.{State}
 use Rattle.site.specs.declared.State.the-variants.{Q, W, P, A, C}
-use Rattle.promise.specs.Classes.{Kind, Start, Yes, No, MoveP, MoveW, Ack, Commit, Abort, byState, IsQ, IsW, IsA, IsC, QW, WA, PC, QWA, Order, Prepares, Yields, IsCommit, IsAbort, atOrder, Stands, Relies, First, Leads, Onward, stays, drops, gives-up, commits, qw-not-a, qwa-not-c, pc-not-a, pc-not-qw, pc-not-wa, q-in-qw, wa-in-qwa, c-in-pc, rest-in-qwa}
-use Rattle.promise.specs.View.{View, Evidence, seen, told, EP, EA, EC, Open, Lead, Lowest, Mute, MayPrepare, MayAbort, MayCommit, nobody, Inv}
+use Rattle.promise.specs.Classes.{Kind, MoveP, MoveW, Ack, IsQ, PC, QWA, Order, Stands, Relies, First, Onward, stays, drops, gives-up, commits, pc-not-qw, pc-not-wa, q-in-qw, c-in-pc, rest-in-qwa}
+use Rattle.promise.specs.View.{View, seen, told, EP, EA, EC, Open, Lead, Mute, MayPrepare, MayAbort, MayCommit, nobody, Inv}
 use Rattle.promise.specs.Less.{Votes}
 use Rattle.promise.specs.Become.{Fits}
 

@@ -1,33 +1,31 @@
 -- A fresh run has the invariant, and so has every run after events from it.
 -- Assumes nothing.
-use Prim.Native.Nat.{ℕ, zero, suc, _+_, _-_, _*_, _≤_, _<_}
-use mathlib.Core.Bool.{Bool, true, false, cond}
-use mathlib.Core.List.{List, [], _∷_, _++_}
+use Prim.Native.Nat.{ℕ, zero, suc, _≤_}
+use mathlib.Core.List.{List, [], _∷_}
 use mathlib.Core.Path.{_≡_, refl, sym, ap, subst, _∙_}
-use mathlib.Core.Logic.{_≢_, _⊎_, inl, inr, ⊎-elim}
+use mathlib.Core.Logic.{_⊎_, inl, inr, ⊎-elim}
 use native.Mathlib.Omega.{arith}
-use lib.ListN.{length, getD, replicate}
-use lib.Dec.{leb}
+use lib.ListN.{getD, replicate}
 use borrow.Author.Tests.{le-leb}
-use Rattle.sets.specs.Sets.{has}
 use Rattle.site.specs.declared.State.{State}
-use Rattle.site.specs.declared.State.the-variants.{Q, W, P, A, C}
+use Rattle.site.specs.declared.State.the-variants.{Q, A}
 use Rattle.site.specs.declared.Site.{Site as Record}
 use Rattle.run.specs.declared.Run.{Run}
 use Rattle.run.specs.declared.Event.{Event}
 use Rattle.run.specs.Run.{noSite, place, freshSite, freshRun}
 use Rattle.run.specs.Event.{freshOf, eventOf}
 use Rattle.run.specs.After.{Tale, onward, told, opening, after}
+use Rattle.run.specs.RunLaws.{frame}
+use Rattle.run.specs.GoodRuns.{fresh-good}
 use Rattle.promise.specs.SetsMembers.{In, in-none}
-use Rattle.promise.specs.RunViews.{Shaped, recordOf, Runs, Out}
-use Rattle.promise.specs.Classes.{Kind, Start, Yes, No, MoveP, MoveW, Ack, Commit, Abort, IsQ}
+use Rattle.promise.specs.RunViews.{recordOf, Out}
+use Rattle.promise.specs.Classes.{Kind, Start, Yes, No, MoveP, MoveW, Ack, Commit, Abort}
 use Rattle.promise.specs.View.{View, Evidence, seen, Inv}
 use Rattle.promise.specs.View as view
-use Rattle.promise.specs.Safety.{Final}
 use Rattle.promise.specs.Seen.{number, Recorded, viewOf}
 use Rattle.promise.specs.Words.{Voted, begins, answers, leaves, later}
-use Rattle.promise.specs.RunFrame.{n-same, told-keeps}
-use Rattle.promise.specs.Keeping.{Held, Now, With, some, keeps, revote, settles}
+use Rattle.promise.specs.RunAfter.{told-keeps}
+use Rattle.promise.specs.Keeping.{Held, Now, With, some, keeps, revote}
 
 -- ---- a view in which nothing has happened
 
@@ -136,15 +134,8 @@ module _ (n : ℕ) (least : 2 ≤ n) (most : n ≤ 8) where
 
   pub sites-after : (es : List Event) → after n es .run .n ≡ n
   unfolding after opening
-  sites-after es = told-keeps (λ (r : Run). r .n ≡ n) (λ r e h. n-same r e ∙ h) (opening n) es (ap (λ (r : Run). r .n) fresh-is)
+  sites-after es = told-keeps (λ (r : Run). r .n ≡ n) (λ r e g h. frame r e (g .bytes .shape) .n ∙ h) (opening n) es (rw fresh-is (fresh-good n least most)) (ap (λ (r : Run). r .n) fresh-is)
 
   pub held-after : (es : List Event) → Held (With nothing (Voted (freshOf n .run) es)) (after n es .run)
   unfolding after opening
   held-after es = told-held nothing (opening n) es (subst (Held nothing) (sym fresh-is) (fresh-held n))
-
--- A state that is never left, after further events.
-pub told-settled : (w : ℕ → Type 0) (t : Tale) (es : List Event) → Held w (t .run) → (i : ℕ) → Final (viewOf w (t .run) .st i) → viewOf w (told t es .run) .st i ≡ viewOf w (t .run) .st i
-unfolding onward
-told-settled w t [] h i f = refl
-told-settled w t (e ∷ es) h i f =
-    told-settled (With w (Now (t .run) e)) (onward t e) es (keeps w (t .run) h e) i (subst Final (sym (settles w (t .run) h e i f)) f) ∙ settles w (t .run) h e i f

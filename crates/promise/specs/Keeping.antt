@@ -1,15 +1,15 @@
 -- Every event of a run keeps the invariant.
 -- Assumes nothing.
-use Prim.Native.Nat.{ℕ, zero, suc, _+_, _-_, _*_, _≤_, _<_}
-use mathlib.Core.Bool.{Bool, true, false, cond}
+use Prim.Native.Nat.{ℕ, _≤_}
+use mathlib.Core.Bool.{Bool, true, cond}
 use mathlib.Core.List.{List, [], _∷_}
 use mathlib.Core.Path.{_≡_, refl, sym, ap, subst, _∙_}
-use mathlib.Core.Logic.{_≢_, _⊎_, inl, inr, ⊎-elim}
+use mathlib.Core.Logic.{_⊎_, inl, inr, ⊎-elim}
 use native.Mathlib.Decide.{ℕ-discrete}
 use native.Mathlib.Omega.{arith}
 use lib.Dec.{eqb}
-use lib.ListN.{length, set, length-set, length-map}
-use borrow.Author.Tests.{eqb-true, ne-eqb}
+use lib.ListN.{length, length-set, length-map}
+use borrow.Author.Tests.{ne-eqb}
 use Rattle.sets.specs.Sets.{has, both, minus, withSite}
 use Rattle.site.specs.declared.Vote.the-variants as vote
 use Rattle.site.specs.declared.Outcome.{Outcome}
@@ -18,36 +18,37 @@ use Rattle.site.specs.declared.Step.{Step}
 use Rattle.site.specs.declared.Step.the-variants as step
 use Rattle.site.specs.declared.Site.{Site as Record}
 use Rattle.site.specs.declared.Done.{Done}
-use Rattle.site.specs.Site.{soundOf, namesOf}
+use Rattle.site.specs.Site.{namesOf}
 use Rattle.site.specs.Step.{ruleOf, doneOf, answered, stepOf}
 use Rattle.run.specs.declared.Run.{Run}
 use Rattle.run.specs.declared.Event.{Event}
 use Rattle.run.specs.declared.Event.the-variants.{Act, Stop, Cut}
 use Rattle.run.specs.declared.Ran.{Ran}
-use Rattle.run.specs.Run.{siteAt, withRecord, withNet, takenOut, sentBy, stoppedAt}
-use Rattle.run.specs.Sound.{soundRun}
+use Rattle.run.specs.Run.{siteAt, withRecord, takenOut, sentBy, stoppedAt}
+use Rattle.run.specs.Sound.{Sound, soundRun}
 use Rattle.run.specs.Event.{refusedRun, isThere, delivered, acted, cutShort, eventOf}
 use Rattle.promise.specs.SetsMembers.{In, in-none, minus-in, both-l, both-r}
-use Rattle.promise.specs.RunViews.{Shaped, recordOf, replaced, others, Runs, Out, taken-less}
-use Rattle.promise.specs.RunSound.{Good, good}
-use Rattle.promise.specs.RunEvents.{Accepted, Allowed, Denied, Halted, Unhalted, decide, decide-stop}
-use Rattle.promise.specs.Classes.{Kind, Order, IsYes, Gives, IsQ, order-gives, yes-gives}
-use Rattle.promise.specs.View.{View, Inv}
-use Rattle.promise.specs.Less.{Less, less, Votes, stop, stop-inv}
-use Rattle.promise.specs.Become.{become}
-use Rattle.promise.specs.Send.{send}
-use Rattle.promise.specs.Safety.{whole, cut, Final, settled}
-use Rattle.promise.specs.Seen.{number, Recorded, viewOf, wholeRun, wholly-less, stopped-view, partRun, partly-less}
-use Rattle.promise.specs.Stepping.{Delivers, Voices, Starts, Sure, Stepped, steps}
+use Rattle.run.specs.Views.{Shape, delivered-net}
+use Rattle.promise.specs.RunViews.{Runs, Out, taken-less}
+use Rattle.run.specs.SoundLaws.{sound-parts}
+use Rattle.promise.specs.RunEvents.{Accepted, Allowed, Denied, Halted, decide, decide-stop}
+use Rattle.promise.specs.Classes.{IsYes, Gives, IsQ, order-gives, yes-gives}
+use Rattle.promise.specs.View.{Inv}
+use Rattle.promise.specs.Less.{less, Votes, stop-inv}
+use Rattle.promise.specs.Safety.{whole, cut}
+use Rattle.promise.specs.Seen.{number, viewOf, wholeRun, wholly-less, stopped-view, partRun, partly-less}
+use Rattle.promise.specs.Brings.{Voices, Starts}
+use Rattle.promise.specs.Stepping.{Sure, Stepped, steps}
 use Rattle.promise.specs.Words.{Voted, begins, answers, leaves, later}
 
 -- What runs from fresh have: the lists' lengths, and the invariant of safety.
 pub record Held (w : ℕ → Type 0) (r : Run) : Type 0 where
-  pub shape : Shaped r
+  pub shape : Shape r
   pub inv : Inv (viewOf w r)
 
 -- ---- votes of one event
 
+-- some event gives a vote
 pub some : {r : Run} {es : List Event} {j : ℕ} → Voted r es j → length es ≡ 0 → ⊥
 some (begins h) z = omega arith
 some (answers h) z = omega arith
@@ -58,6 +59,7 @@ some (later h) z = omega arith
 abbrev pub Now : Run → Event → ℕ → Type 0
 Now r e j = Voted r (e ∷ []) j
 
+-- what a vote in an event says of it, and which event gives one
 spoken : {r : Run} {s : ℕ} {t : Step} {j : ℕ} → Now r (Act s t) j → (j ≡ s) × Voices t × (eventOf r (Act s t) .outcome ≡ Taken)
 spoken (begins h) = (refl, tt, h)
 spoken (answers h) = (refl, tt, h)
@@ -92,22 +94,14 @@ With w v j = w j ⊎ v j
 
 -- ---- a step of site s, accepted
 
+-- an accepted step is seen
 sure : {X : Type 0} (o : Outcome) → Accepted o → Sure o X → X
 sure Taken h x = x
 sure Passed h x = x
 sure (Refused g) h x = absurd h
 
--- a delivery changes the network only, and leaves fewer messages
-pub delivered-net : (r : Run) (s : ℕ) (t : Step) → delivered r s t ≡ withNet r (delivered r s t .net)
-unfolding takenOut
-delivered-net r s (step.Begin v) = refl
-delivered-net r s (step.Start k v) = refl
-delivered-net r s (step.Deliver K k) = refl
-delivered-net r s (step.Notice o) = refl
-delivered-net r s step.TakeOver = refl
-delivered-net r s step.Conclude = refl
-
-pub delivered-len : (r : Run) (s : ℕ) (t : Step) → Shaped r → length (delivered r s t .net) ≡ 72
+-- a delivery leaves fewer messages
+pub delivered-len : (r : Run) (s : ℕ) (t : Step) → Shape r → length (delivered r s t .net) ≡ 72
 unfolding takenOut
 delivered-len r s (step.Begin v) h = h .net
 delivered-len r s (step.Start k v) h = length-set (r .net) _ _ ∙ h .net
@@ -116,7 +110,7 @@ delivered-len r s (step.Notice o) h = h .net
 delivered-len r s step.TakeOver h = h .net
 delivered-len r s step.Conclude h = h .net
 
-pub delivered-less : (r : Run) (s : ℕ) (t : Step) → Shaped r → (K k i : ℕ) → Out (delivered r s t .net) K k i → Out (r .net) K k i
+pub delivered-less : (r : Run) (s : ℕ) (t : Step) → Shape r → (K k i : ℕ) → Out (delivered r s t .net) K k i → Out (r .net) K k i
 unfolding takenOut
 delivered-less r s (step.Begin v) h K k i m = m
 delivered-less r s (step.Start f v) h K k i m = taken-less (r .net) 1 f s (h .net) K k i m
@@ -126,13 +120,13 @@ delivered-less r s step.TakeOver h K k i m = m
 delivered-less r s step.Conclude h K k i m = m
 
 -- a step of a site of a sound run, with the right names, goes by its rule
-pub by-rule : (r : Run) (g : Good r) (s : ℕ) (t : Step) → Runs r s → namesOf (siteAt r s) t ≡ true → stepOf (siteAt r s) t ≡ answered (ruleOf (siteAt r s) t)
+pub by-rule : (r : Run) (g : Sound r) (s : ℕ) (t : Step) → Runs r s → namesOf (siteAt r s) t ≡ true → stepOf (siteAt r s) t ≡ answered (ruleOf (siteAt r s) t)
 unfolding stepOf doneOf
-by-rule r g s t x n = simp (g .sound s (x .least) (x .most), n)
+by-rule r g s t x n = simp (g .places s (x .least) (x .most) .sound, n)
 
 module _ (w : ℕ → Type 0) (r : Run) (h : Held w r) (s : ℕ) (t : Step) (al : Allowed r s t) where
-  pub sound : Good r
-  sound = good r (al .sound)
+  pub sound : Sound r
+  sound = sound-parts r (h .shape) (al .sound)
 
   abbrev pub z : Record
   z = siteAt r s
@@ -226,18 +220,6 @@ module _ (w : ℕ → Type 0) (r : Run) (h : Held w r) (s : ℕ) (t : Step) (al 
           let g = seen .votes .gives (yes-gives (seen .κ) o) in
           inr (speaks-cut r s t x (g .0) (e .0) (outcome ∙ g .1) (subst (λ (i : ℕ). has x i ≡ true) (e .1) (both-r (d .to) x i y)))
 
-  -- a and c are not left
-  pub whole-settled : (i : ℕ) → Final (viewOf w r .st i) → viewOf w (eventOf r (Act s t) .run) .st i ≡ viewOf w r .st i
-  whole-settled i f = ap (λ (y : Run). viewOf w y .st i) whole-run ∙ go (ℕ-discrete i s)
-    where
-      go : Dec (i ≡ s) → recordOf (set (r .sites) (s - 1) (d .site)) i .state ≡ viewOf w r .st i
-      go (no ne) = ap (λ (y : Record). y .state) (others (r .sites) s (d .site) (al .runs .least) i ne)
-      go (yes e) =
-          ap (λ (k : ℕ). recordOf (set (r .sites) (s - 1) (d .site)) k .state) e
-          ∙ ap (λ (y : Record). y .state) (replaced (r .sites) s (d .site) (al .runs .least) (omega (arith, s8, h .shape .sites)))
-          ∙ settled (viewOf w r) s (λ i. In (d .to) i) (h .inv) (al .runs) (seen .act) (rw e at f)
-          ∙ ap (viewOf w r .st) (sym e)
-
 -- ---- every event
 
 -- the votes may be written in another way
@@ -283,18 +265,9 @@ module _ (w : ℕ → Type 0) (r : Run) (h : Held w r) where
           stops =
               record {
                 shape = unfold stoppedAt in record { sites = h .shape .sites; net = length-map (r .net) _ ∙ h .shape .net };
-                inv = less _ _ (stopped-view r s (omega (arith, n .runs .most, good r (n .sound) .most)) w w)
+                inv = less _ _ (stopped-view r s (omega (arith, n .runs .most, sound-parts r (h .shape) (n .sound) .most)) w w)
                     (stop-inv (viewOf w r) s _ (n .runs) (record { old = λ i y. y; new = λ i y. inl y }) (h .inv));
               }
-
-  -- a and c are not left
-  pub settles : (e : Event) (i : ℕ) → Final (viewOf w r .st i) → viewOf w (eventOf r e .run) .st i ≡ viewOf w r .st i
-  settles (Act s t) i f = ⊎-elim (λ al. whole-settled w r h s t al i f) (λ n. ap (λ (a : Ran). viewOf w (a .run) .st i) (n .whole)) (decide r s t)
-  settles (Cut s t x) i f = ⊎-elim (λ al. ap (λ (y : Run). viewOf w y .st i) (part-run w r h s t al x)) (λ n. ap (λ (a : Ran). viewOf w (a .run) .st i) (n .part x)) (decide r s t)
-  settles (Stop s) i f = ⊎-elim (λ n. ap (λ (a : Ran). viewOf w (a .run) .st i) (n .done) ∙ still) (λ n. ap (λ (a : Ran). viewOf w (a .run) .st i) (n .done)) (decide-stop r s)
-    where
-      still : viewOf w (stoppedAt r s) .st i ≡ viewOf w r .st i
-      still = unfold stoppedAt in refl
 
   -- no event conflicts
   abbrev groundOf : Outcome → ℕ
@@ -311,9 +284,9 @@ module _ (w : ℕ → Type 0) (r : Run) (h : Held w r) where
     where
       conflict : soundRun r ≡ true → Runs r s → namesOf (siteAt r s) t ≡ true → isThere r s t ≡ true → stepOf (siteAt r s) t .outcome ≡ Refused (n .ground) → ⊥
       conflict g x m i o =
-          subst (λ (o : Outcome). Sure o (Stepped w r (good r g) (h .inv) s x t (ruleOf (siteAt r s) t)))
-          (sym (ap (λ a. a .outcome) (by-rule r (good r g) s t x m)) ∙ o ∙ q)
-          (steps w r (good r g) (h .inv) s x t m i) refl
+          subst (λ (o : Outcome). Sure o (Stepped w r (sound-parts r (h .shape) g) (h .inv) s x t (ruleOf (siteAt r s) t)))
+          (sym (ap (λ a. a .outcome) (by-rule r (sound-parts r (h .shape) g) s t x m)) ∙ o ∙ q)
+          (steps w r (sound-parts r (h .shape) g) (h .inv) s x t m i) refl
 
   pub at-peace : (e : Event) → eventOf r e .outcome ≡ Refused 6 → ⊥
   at-peace (Act s t) q =

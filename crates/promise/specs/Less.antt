@@ -1,11 +1,11 @@
 -- What only takes away keeps the invariant: lost messages, stops, and the votes that a stop still lets out.
 -- Assumes nothing.
-use Prim.Native.Nat.{ℕ, _≤_, _<_}
+use Prim.Native.Nat.{ℕ}
 use mathlib.Core.Path.{_≡_, refl, subst, fun-ext}
 use mathlib.Core.Logic.{_≢_, _⊎_, inl, inr, ⊎-elim}
 use Rattle.site.specs.declared.State.{State}
-use Rattle.promise.specs.Classes.{Kind, Yes, MoveP, MoveW, Ack, IsQ, IsW, IsA, IsC, PC, QWA, Order, Prepares, IsCommit, IsAbort, First}
-use Rattle.promise.specs.View.{View, Evidence, seen, told, EP, EA, EC, Open, Lead, Lowest, Mute, MayPrepare, MayAbort, MayCommit, nobody, Inv}
+use Rattle.promise.specs.Classes.{Kind, Yes, MoveP, MoveW, Ack, IsQ}
+use Rattle.promise.specs.View.{View, Evidence, seen, told, Open, Mute, MayPrepare, MayAbort, MayCommit, nobody, Inv}
 
 -- b is a with fewer running sites and live messages, the same states and leaders, and the same votes but for those of sites that stop in q.
 pub record Less (b a : View) : Type 0 where

@@ -1,27 +1,27 @@
 -- What each running site may still do, and that every step of a site lowers it by more than it writes.
 -- Assumes nothing.
-use Prim.Native.Nat.{ℕ, zero, suc, _+_, _-_, _*_, _≤_, _<_}
-use mathlib.Core.Bool.{Bool, true, false, cond, not, _&&_, _||_}
-use mathlib.Core.Path.{_≡_, refl, sym, ap, subst, _∙_}
-use mathlib.Core.Logic.{_≢_, _⊎_, inl, inr, ⊎-elim}
-use native.Mathlib.Decide.{ℕ-discrete}
+use Prim.Native.Nat.{ℕ, _+_, _-_, _*_, _≤_, _<_}
+use mathlib.Core.Bool.{Bool, true, false, cond, not, _&&_}
+use mathlib.Core.Path.{_≡_, refl, ap, _∙_}
+use mathlib.Core.Logic.{_≢_}
 use native.Mathlib.Omega.{arith}
 use lib.Dec.{eqb}
-use borrow.Author.Tests.{eq-eqb, ne-eqb, eqb-true}
+use borrow.Author.Tests.{eq-eqb, ne-eqb}
 use Rattle.site.specs.declared.State.{State}
 use Rattle.site.specs.declared.State.the-variants.{Q, W, P, A, C}
 use Rattle.promise.specs.Classes.{Kind, Start, Yes, No, MoveP, MoveW, Ack, Commit, Abort, IsQ, QW, Order, atOrder, PC, First, Leads}
 use Rattle.promise.specs.View.{View, Lead, Inv}
-use Rattle.promise.specs.Does.{Everyone, Only, Uses, Does, begin-yes, begin-no, start-yes, start-no, give-up, prepare, move-p, stay-p, move-w, stay-w, commit, abort, over-q, over, end-a, end-c, noted, passed}
+use Rattle.promise.specs.Does.{Uses, Does, begin-yes, begin-no, start-yes, start-no, give-up, prepare, move-p, stay-p, move-w, stay-w, commit, abort, over-q, over, end-a, end-c, noted, passed}
 use Rattle.promise.specs.Seen.{number}
-use Rattle.promise.specs.Stepping.{weigh, weigh-least, feeOf}
+use Rattle.promise.specs.Brings.{weigh, weigh-least, feeOf}
 
-abbrev early : State → Bool
-early Q = true
-early W = true
-early P = false
-early A = false
-early C = false
+-- whether site i in state s that follows l leads
+abbrev leading : ℕ → State → ℕ → Bool
+leading i Q l = eqb l i && not (eqb i 1)
+leading i W l = eqb l i && not (eqb i 1)
+leading i P l = eqb l i
+leading i A l = eqb l i
+leading i C l = eqb l i
 
 -- a leader that has not decided will conclude once, and write to each higher site
 abbrev pub asLeader : ℕ → ℕ → State → ℕ
@@ -41,59 +41,59 @@ asFirst n i C = 0
 
 -- What site i of n in state s that follows l may still do: as a leader, or before it leads; and in the first phase.
 unfoldable pub own : ℕ → ℕ → State → ℕ → ℕ
-own n i s l = cond (eqb l i && not (eqb i 1 && early s)) (asLeader n i s) (2 + 3 * (n - i)) + asFirst n i s
+own n i s l = cond (leading i s l) (asLeader n i s) (2 + 3 * (n - i)) + asFirst n i s
 
 module _ (n i : ℕ) where
   first-q : i ≡ 1 → asFirst n i Q ≡ 1 + 2 * (n - 1)
   first-q e = ap (λ (b : Bool). cond b (1 + 2 * (n - 1)) 0) (eq-eqb i 1 e)
 
-  own-follows : (s : State) (l : ℕ) → l ≢ i → own n i s l ≡ 2 + 3 * (n - i) + asFirst n i s
+  -- a site that does not lead
+  follows : (s : State) (l : ℕ) → leading i s l ≡ false → own n i s l ≡ 2 + 3 * (n - i) + asFirst n i s
   unfolding own
-  own-follows s l ne = ap (λ (b : Bool). cond (b && not (eqb i 1 && early s)) (asLeader n i s) (2 + 3 * (n - i)) + asFirst n i s) (ne-eqb l i ne)
+  follows s l e = ap (λ (b : Bool). cond b (asLeader n i s) (2 + 3 * (n - i)) + asFirst n i s) e
+
+  own-follows : (s : State) (l : ℕ) → l ≢ i → own n i s l ≡ 2 + 3 * (n - i) + asFirst n i s
+  own-follows s l ne = follows s l (go s)
+    where
+      go : (s : State) → leading i s l ≡ false
+      go Q = simp (ne-eqb l i ne)
+      go W = simp (ne-eqb l i ne)
+      go P = ne-eqb l i ne
+      go A = ne-eqb l i ne
+      go C = ne-eqb l i ne
 
   own-first : (s : State) (l : ℕ) → First i s → own n i s l ≡ 2 + 3 * (n - i) + asFirst n i s
-  unfolding own
-  own-first s l f = ap (λ (b : Bool). cond b (asLeader n i s) (2 + 3 * (n - i)) + asFirst n i s) (go s (f .1))
+  own-first s l f = follows s l (go s (f .1))
     where
-      go : (s : State) → QW s → (eqb l i && not (eqb i 1 && early s)) ≡ false
-      go Q x = at (eqb l i) (eqb i 1) (eq-eqb i 1 (f .0))
-        where
-          at : (a b : Bool) → b ≡ true → (a && not (b && true)) ≡ false
-          at true true e = refl
-          at true false e = sym e
-          at false b e = refl
-      go W x = at (eqb l i) (eqb i 1) (eq-eqb i 1 (f .0))
-        where
-          at : (a b : Bool) → b ≡ true → (a && not (b && true)) ≡ false
-          at true true e = refl
-          at true false e = sym e
-          at false b e = refl
+      but : (b : Bool) → (b && not (eqb i 1)) ≡ false
+      but true = simp (eq-eqb i 1 (f .0))
+      but false = refl
+
+      go : (s : State) → QW s → leading i s l ≡ false
+      go Q x = but (eqb l i)
+      go W x = but (eqb l i)
       go P x = absurd x
       go A x = absurd x
       go C x = absurd x
 
+  -- a leader that has left q
   own-leads : (s : State) (l : ℕ) → Leads i s l → (IsQ s → ⊥) → own n i s l ≡ asLeader n i s
   unfolding own
-  own-leads s l h q = ap (λ (b : Bool). cond (b && not (eqb i 1 && early s)) (asLeader n i s) (2 + 3 * (n - i)) + asFirst n i s) (eq-eqb l i (h .0)) ∙ go s h q
+  own-leads s l h q = ap (λ (b : Bool). cond b (asLeader n i s) (2 + 3 * (n - i)) + asFirst n i s) (go s h) ∙ sum s q
     where
-      go : (s : State) → Leads i s l → (IsQ s → ⊥) → cond (not (eqb i 1 && early s)) (asLeader n i s) (2 + 3 * (n - i)) + asFirst n i s ≡ asLeader n i s
-      go Q h q = absurd (q tt)
-      go W h q = ap (λ (b : Bool). cond (not (b && true)) (1 + (n - i)) (2 + 3 * (n - i)) + 0) (ne-eqb i 1 (λ e. h .1 (e, tt))) ∙ omega arith
-      go P h q = at (eqb i 1)
-        where
-          at : (b : Bool) → cond (not (b && false)) (1 + (n - i)) (2 + 3 * (n - i)) + 0 ≡ 1 + (n - i)
-          at true = omega arith
-          at false = omega arith
-      go A h q = at (eqb i 1)
-        where
-          at : (b : Bool) → cond (not (b && false)) 0 (2 + 3 * (n - i)) + 0 ≡ 0
-          at true = refl
-          at false = refl
-      go C h q = at (eqb i 1)
-        where
-          at : (b : Bool) → cond (not (b && false)) 0 (2 + 3 * (n - i)) + 0 ≡ 0
-          at true = refl
-          at false = refl
+      go : (s : State) → Leads i s l → leading i s l ≡ true
+      go Q h = simp (eq-eqb l i (h .0), ne-eqb i 1 (λ e. h .1 (e, tt)))
+      go W h = simp (eq-eqb l i (h .0), ne-eqb i 1 (λ e. h .1 (e, tt)))
+      go P h = eq-eqb l i (h .0)
+      go A h = eq-eqb l i (h .0)
+      go C h = eq-eqb l i (h .0)
+
+      sum : (s : State) → (IsQ s → ⊥) → asLeader n i s + asFirst n i s ≡ asLeader n i s
+      sum Q q = absurd (q tt)
+      sum W q = omega arith
+      sum P q = omega arith
+      sum A q = omega arith
+      sum C q = omega arith
 
 -- A step of site j that writes c messages: what j may still do falls by more than they count for, less what the step uses up.
 module _ (a : View) (j : ℕ) (T : ℕ → Type 0) (v : Inv a) (j1 : 1 ≤ j) (n : ℕ) (c : ℕ)

@@ -6,11 +6,11 @@ use mathlib.Core.Logic.{_≢_, _⊎_, inl, inr, ⊎-elim}
 use native.Mathlib.Decide.{ℕ-discrete, decLt}
 use native.Mathlib.Omega.{arith}
 use Rattle.site.specs.declared.State.{State}
-use Rattle.site.specs.declared.State.the-variants.{Q, W, P, A, C}
-use Rattle.promise.specs.Classes.{Kind, Start, Yes, No, MoveP, MoveW, Ack, Commit, Abort, byState, byKind, IsQ, IsW, IsA, IsC, QW, PC, Order, atOrder, Stands, First, Leads}
-use Rattle.promise.specs.View.{View, Lead, Lowest, Inv}
-use Rattle.promise.specs.Does.{Everyone, Only, Idle, Uses, nothing, notes, message, Does, begin-yes, begin-no, start-yes, start-no, give-up, prepare, move-p, stay-p, move-w, stay-w, commit, abort, over-q, over, end-a, end-c, noted, passed}
-use Rattle.promise.specs.Safety.{Final, alone, settled}
+use Rattle.site.specs.declared.State.the-variants.{W, P, A, C}
+use Rattle.promise.specs.Classes.{Kind, Start, Yes, No, MoveP, MoveW, Ack, Commit, Abort, byState, byKind, IsQ, IsW, IsA, IsC, QW, Order, atOrder, First, Leads, q-in-qw, w-in-qw, a-final, c-final, is-w}
+use Rattle.promise.specs.View.{View, Lowest, Inv}
+use Rattle.promise.specs.Does.{Everyone, Idle, Uses, nothing, notes, message, Does, begin-yes, begin-no, start-yes, start-no, give-up, prepare, move-p, stay-p, move-w, stay-w, commit, abort, over-q, over, end-a, end-c, noted, passed}
+use Rattle.promise.specs.Safety.{alone, settled}
 
 -- A leader in w or p waits.
 abbrev pub WP : State → Type 0
@@ -245,28 +245,14 @@ module _ (a : View) (j : ℕ) (T : ℕ → Type 0) (v : Inv a) (r : a .runs j) w
       first-j : k ≡ 1 → QW (a .st k) → (s ≡ a .st j) ⊎ ((y ≡ message Start 1) × a .live Start 1 j)
       first-j e q = early c (λ f. ne (e ∙ sym f)) (rw e at (h .runs k x)) (refl, subst (λ (i : ℕ). QW (a .st i)) e q)
 
-      q-qw : (t : State) → IsQ t → QW t
-      q-qw Q z = tt
-      q-qw W z = tt
-      q-qw P z = z
-      q-qw A z = z
-      q-qw C z = z
-
-      w-qw : (t : State) → IsW t → QW t
-      w-qw Q z = tt
-      w-qw W z = tt
-      w-qw P z = z
-      w-qw A z = z
-      w-qw C z = z
-
       toward : Due (b .live) k (a .st k) (a .ld k) j s
       toward =
           record {
             asked = λ e w. ⊎-elim (λ z. start e w z (used Start k z)) (⊎-elim (λ z. inr (inl (back Yes z))) (λ z. inr (inr (back No z)))) (d .asked e w);
-            unasked = λ e q. ⊎-elim (λ p. rw p (d .unasked e q)) (λ p. absurd (d .begun e (subst (λ (i : ℕ). a .live Start i j) (sym e) (p .1)) q)) (first-j e (q-qw (a .st k) q));
+            unasked = λ e q. ⊎-elim (λ p. rw p (d .unasked e q)) (λ p. absurd (d .begun e (subst (λ (i : ℕ). a .live Start i j) (sym e) (p .1)) q)) (first-j e (q-in-qw (a .st k) q));
             asking = λ e w z.
                 ⊎-elim (λ p. rw p (d .asking e w (old-start k j ne z))) (λ p. absurd (h .gone k ne (p .0 ∙ subst (λ (i : ℕ). message Start 1 ≡ message Start i) (sym e) refl) z))
-                (first-j e (w-qw (a .st k) w));
+                (first-j e (w-in-qw (a .st k) w));
             begun = λ e z. d .begun e (old-start k j ne z);
             moved = λ f w.
                 ⊎-elim (λ z. ⊎-elim (λ z. inl z) (λ q. inr (inr (replied q))) (used MoveP k z))
@@ -285,34 +271,10 @@ module _ (a : View) (j : ℕ) (T : ℕ → Type 0) (v : Inv a) (r : a .runs j) w
           replied (inl q) = absurd (high q)
           replied (inr q) = came Ack k (q .0) x (q .1)
 
-          a-final : (t : State) → IsA t → Final t
-          a-final Q z = z
-          a-final W z = z
-          a-final P z = z
-          a-final A z = z
-          a-final C z = tt
-
-          c-final : (t : State) → IsC t → Final t
-          c-final Q z = z
-          c-final W z = z
-          c-final P z = z
-          c-final A z = tt
-          c-final C z = z
-
     -- from j
     module _ (i : ℕ) (ne : i ≢ j) (x : b .runs i) where
       e : Due (a .live) j (a .st j) (a .ld j) i (a .st i)
       e = o .due j i r (h .runs i x) (λ q. ne (sym q))
-
-      not-idle : IsW (a .st j) → a .st j ≢ W → ⊥
-      not-idle w n = n (go (a .st j) w)
-        where
-          go : (t : State) → IsW t → t ≡ W
-          go Q z = absurd z
-          go W z = refl
-          go P z = absurd z
-          go A z = absurd z
-          go C z = absurd z
 
       quiet : κ ≡ Ack → Due (b .live) j (a .st j) (a .ld j) i (a .st i)
       quiet k =
@@ -337,35 +299,21 @@ module _ (a : View) (j : ℕ) (T : ℕ → Type 0) (v : Inv a) (r : a .runs j) w
               IsAck′ κ = byKind ⊥ ⊥ ⊥ ⊥ ⊥ Unit ⊥ ⊥ κ
 
           idle : IsW (a .st j) → (a .st j ≢ W) ⊎ ⊥ → ⊥
-          idle w (inl n) = not-idle w n
+          idle w (inl n) = n (is-w (a .st j) w)
           idle w (inr n) = n
 
       announced : Announced s l κ → Due (b .live) j s l i (a .st i)
       announced n =
           record {
-            asked = λ p w. let f = n .first (p, w-qw′ s w) in inl (came Start i (f .0) x (f .3 .every i (h .runs i x) ne));
-            unasked = λ p q. absurd (n .first (p, q-qw′ s q) .2 q);
-            asking = λ p w z. e .unasked p (n .first (p, w-qw′ s w) .1);
-            begun = λ p z q. n .first (p, q-qw′ s q) .2 q;
+            asked = λ p w. let f = n .first (p, w-in-qw s w) in inl (came Start i (f .0) x (f .3 .every i (h .runs i x) ne));
+            unasked = λ p q. absurd (n .first (p, q-in-qw s q) .2 q);
+            asking = λ p w z. e .unasked p (n .first (p, w-in-qw s w) .1);
+            begun = λ p z q. n .first (p, q-in-qw s q) .2 q;
             moved = λ f w. let g = n .leads f in move κ (g .0) (rw (g .1) at w) refl (g .2 .every i (h .runs i x) ne);
             aborts = λ f w. let g = n .leads f in inl (came Abort i (is-a κ (g .0) (rw (g .1) at w)) x (g .2 .every i (h .runs i x) ne));
             commits = λ f w. let g = n .leads f in inl (came Commit i (is-c κ (g .0) (rw (g .1) at w)) x (g .2 .every i (h .runs i x) ne));
           }
         where
-          q-qw′ : (t : State) → IsQ t → QW t
-          q-qw′ Q z = tt
-          q-qw′ W z = tt
-          q-qw′ P z = z
-          q-qw′ A z = z
-          q-qw′ C z = z
-
-          w-qw′ : (t : State) → IsW t → QW t
-          w-qw′ Q z = tt
-          w-qw′ W z = tt
-          w-qw′ P z = z
-          w-qw′ A z = z
-          w-qw′ C z = z
-
           move : (κ′ : Kind) → Order κ′ → WP (atOrder κ′) → κ ≡ κ′ → T i → b .live MoveP j i ⊎ (b .live MoveW j i ⊎ b .live Ack i j)
           move MoveP o w q t = inl (came MoveP i q x t)
           move MoveW o w q t = inr (inl (came MoveW i q x t))

@@ -1,14 +1,13 @@
 -- What running sites owe one another, in every run from fresh.
 -- Assumes nothing.
-use Prim.Native.Nat.{ℕ, zero, suc, _+_, _-_, _*_, _≤_, _<_}
-use mathlib.Core.Bool.{Bool, true, false}
+use Prim.Native.Nat.{ℕ, _≤_}
 use mathlib.Core.List.{List, [], _∷_}
 use mathlib.Core.Path.{_≡_, refl, sym, ap, subst, _∙_}
 use mathlib.Core.Logic.{_≢_, _⊎_, inl, inr, ⊎-elim}
 use native.Mathlib.Decide.{ℕ-discrete}
 use native.Mathlib.Omega.{arith}
-use lib.ListN.{length, set, length-map}
-use Rattle.sets.specs.Sets.{has, both, minus, withSite}
+use lib.ListN.{length, length-map}
+use Rattle.sets.specs.Sets.{both, minus, withSite}
 use Rattle.site.specs.declared.State.the-variants.{Q}
 use Rattle.site.specs.declared.Step.{Step}
 use Rattle.site.specs.declared.Step.the-variants as step
@@ -23,20 +22,22 @@ use Rattle.run.specs.Run.{siteAt, takenOut, stoppedAt, freshRun}
 use Rattle.run.specs.Event.{refusedRun, delivered, eventOf}
 use Rattle.run.specs.After.{Tale, onward, told, opening, after}
 use Rattle.promise.specs.SetsMembers.{In, minus-in, in-minus, both-l}
-use Rattle.promise.specs.RunViews.{Shaped, recordOf, record-at, replaced, others, Runs, Out, Placed, stoppedNet, sentNet, takenNet, sent-cases, sent-old, sent-new, taken-old, taken-gone, stopped-old}
-use Rattle.promise.specs.RunSound.{Good, good}
-use Rattle.promise.specs.RunEvents.{Allowed, Denied, Halted, Unhalted, decide, decide-stop}
+use Rattle.run.specs.Views.{Shape}
+use Rattle.promise.specs.RunViews.{recordOf, record-at, replaced, others, Runs, Out, stoppedNet, takenNet, sent-cases, sent-old, sent-new, taken-old, taken-gone, stopped-old}
+use Rattle.run.specs.Sound.{Sound}
+use Rattle.run.specs.SoundLaws.{sound-parts}
+use Rattle.promise.specs.RunEvents.{Allowed, Halted, decide, decide-stop}
 use Rattle.promise.specs.Classes.{Kind, Start, Yes, No, MoveP, MoveW, Ack, Commit, Abort}
-use Rattle.promise.specs.View.{View, Inv}
-use Rattle.promise.specs.Does.{Uses, message}
-use Rattle.promise.specs.Owed.{Owed, After, Stopped, owed-stopped, owed-step}
+use Rattle.promise.specs.Does.{message}
+use Rattle.promise.specs.Owed.{Owed, After, owed-stopped, owed-step}
 use Rattle.promise.specs.Seen.{number, Recorded, viewOf, wholeRun, wholly-less, still-runs, stopped-view, partRun, partly-less}
-use Rattle.promise.specs.Stepping.{Delivers, Stepped}
-use Rattle.promise.specs.Keeping.{Held, delivered-net, delivered-len, delivered-less, sound, s8, K, seen, kinds, whole-run, part-run, Now, With, keeps}
+use Rattle.promise.specs.Brings.{Delivers}
+use Rattle.promise.specs.Stepping.{Stepped}
+use Rattle.promise.specs.Keeping.{Held, delivered-len, delivered-less, sound, s8, K, seen, kinds, whole-run, part-run, Now, With, keeps}
 use Rattle.promise.specs.Fresh.{nothing, each-fresh, no-live, fresh-held, fresh-is}
 
 -- a message stays where it is, or is the one delivered
-delivered-old : (r : Run) (s : ℕ) (t : Step) → Shaped r → (C k i : ℕ) → Out (r .net) C k i → Out (delivered r s t .net) C k i ⊎ ((i ≡ s) × Delivers t C k)
+delivered-old : (r : Run) (s : ℕ) (t : Step) → Shape r → (C k i : ℕ) → Out (r .net) C k i → Out (delivered r s t .net) C k i ⊎ ((i ≡ s) × Delivers t C k)
 unfolding takenOut
 delivered-old r s (step.Begin v) h C k i x = inl x
 delivered-old r s (step.Start f v) h C k i x = ⊎-elim (λ y. inl y) (λ y. inr (y .2, (y .0, y .1))) (taken-old (r .net) 1 f s (h .net) C k i x)
@@ -46,7 +47,7 @@ delivered-old r s step.TakeOver h C k i x = inl x
 delivered-old r s step.Conclude h C k i x = inl x
 
 -- the one delivered is gone
-delivered-gone : (r : Run) (s : ℕ) (t : Step) → Shaped r → (C k : ℕ) → Delivers t C k → Out (delivered r s t .net) C k s → ⊥
+delivered-gone : (r : Run) (s : ℕ) (t : Step) → Shape r → (C k : ℕ) → Delivers t C k → Out (delivered r s t .net) C k s → ⊥
 unfolding takenOut
 delivered-gone r s (step.Begin v) h C k d x = d
 delivered-gone r s (step.Start f v) h C k d x = taken-gone (r .net) 1 f s (h .net) (subst (λ (k : ℕ). Out (takenNet (r .net) 1 f s) 1 k s) (sym (d .1)) (subst (λ (C : ℕ). Out (takenNet (r .net) 1 f s) C k s) (sym (d .0)) x))
@@ -68,6 +69,16 @@ kind-in Abort = (omega arith, omega arith)
 -- ---- a step of site s
 
 module _ (w : ℕ → Type 0) (r : Run) (h : Held w r) (s : ℕ) (t : Step) (al : Allowed r s t) where
+  good : Sound r
+  good = sound w r h s t al
+
+  most : s ≤ 8
+  most = s8 w r h s t al
+
+  -- the kind of what is written
+  abbrev kind : ℕ
+  kind = K w r h s t al
+
   abbrev d : Done
   d = ruleOf (siteAt r s) t
 
@@ -75,13 +86,13 @@ module _ (w : ℕ → Type 0) (r : Run) (h : Held w r) (s : ℕ) (t : Step) (al 
   y = seen w r h s t al
 
   abbrev q : Run
-  q = wholeRun r (delivered r s t .net) s (d .site) (K w r h s t al) (minus (d .to) (r .stopped))
+  q = wholeRun r (delivered r s t .net) s (d .site) kind (minus (d .to) (r .stopped))
 
   here : recordOf (r .sites) s ≡ siteAt r s
   here = record-at r s (al .runs .least)
 
   new : recordOf (q .sites) s ≡ d .site
-  new = replaced (r .sites) s (d .site) (al .runs .least) (omega (arith, h .shape .sites, s8 w r h s t al))
+  new = replaced (r .sites) s (d .site) (al .runs .least) (omega (arith, h .shape .sites, most))
 
   still : (i : ℕ) → i ≢ s → recordOf (q .sites) i ≡ recordOf (r .sites) i
   still = others (r .sites) s (d .site) (al .runs .least)
@@ -97,7 +108,7 @@ module _ (w : ℕ → Type 0) (r : Run) (h : Held w r) (s : ℕ) (t : Step) (al 
   recorded c k x = inr (subst (λ (a : Record). Recorded c a k) (sym new) x)
 
   stay : (c : Kind) (k i : ℕ) → viewOf w r .live c k i → viewOf w q .live c k i ⊎ ((i ≡ s) × (y .uses ≡ message c k))
-  stay c k i (inl x) = ⊎-elim (λ z. inl (inl (sent-old net (K w r h s t al) s (minus (d .to) (r .stopped)) len (number c) k i z))) used (delivered-old r s t (h .shape) (number c) k i x)
+  stay c k i (inl x) = ⊎-elim (λ z. inl (inl (sent-old net kind s (minus (d .to) (r .stopped)) len (number c) k i z))) used (delivered-old r s t (h .shape) (number c) k i x)
     where
       used : (i ≡ s) × Delivers t (number c) k → viewOf w q .live c k i ⊎ ((i ≡ s) × (y .uses ≡ message c k))
       used z = ⊎-elim (λ u. inr (z .0, u)) (λ u. inl (subst (λ (i : ℕ). viewOf w q .live c k i) (sym (z .0)) (recorded c k u))) (y .spends .used c k (z .1))
@@ -109,15 +120,15 @@ module _ (w : ℕ → Type 0) (r : Run) (h : Held w r) (s : ℕ) (t : Step) (al 
 
   come : (i : ℕ) → Runs q i → In (d .to) i → viewOf w q .live (y .κ) s i
   come i x z =
-      let e : K w r h s t al ≡ number (y .κ) = kinds w r h s t al i z in
+      let e : kind ≡ number (y .κ) = kinds w r h s t al i z in
       let n = kind-in (y .κ) in
       inl (subst (λ (C : ℕ). Out (q .net) C s i) e
-      (sent-new net (K w r h s t al) s (minus (d .to) (r .stopped)) len
-      (record { lowest = rw e (n .0); highest = rw e (n .1); site = record { least = al .runs .least; most = s8 w r h s t al } }) i (in-minus (d .to) (r .stopped) i z (x .up))))
+      (sent-new net kind s (minus (d .to) (r .stopped)) len
+      (record { least = rw e (n .0); most = rw e (n .1); first = al .runs .least; last = most }) i (in-minus (d .to) (r .stopped) i z (x .up))))
 
   gone : (k : ℕ) → k ≢ s → y .uses ≡ message Start k → viewOf w q .live Start k s → ⊥
   gone k ne u (inl x) =
-      ⊎-elim (delivered-gone r s t (h .shape) 1 k (y .spends .brought Start k u)) (λ z. ne (sym (z .1))) (sent-cases net (K w r h s t al) s (minus (d .to) (r .stopped)) len 1 k s x)
+      ⊎-elim (delivered-gone r s t (h .shape) 1 k (y .spends .brought Start k u)) (λ z. ne (sym (z .1))) (sent-cases net kind s (minus (d .to) (r .stopped)) len 1 k s x)
   gone k ne u (inr x) = x
 
   after-whole : After (viewOf w r) (viewOf w q) s (λ i. In (d .to) i) (d .site .state) (d .site .leader) (y .κ) (y .uses)
@@ -131,7 +142,7 @@ module _ (w : ℕ → Type 0) (r : Run) (h : Held w r) (s : ℕ) (t : Step) (al 
         stay = stay;
         come = come;
         only = λ k i x. ⊎-elim (λ z. inl z) (λ z. inr (z .0, z .1))
-            (wholly-less w w r (h .shape) net len s (al .runs .least) (s8 w r h s t al) (d .site) (K w r h s t al) (minus (d .to) (r .stopped)) (y .κ) (λ i. In (d .to) i)
+            (wholly-less w w r (h .shape) net len s (al .runs .least) most (d .site) kind (minus (d .to) (r .stopped)) (y .κ) (λ i. In (d .to) i)
             (delivered-less r s t (h .shape)) (λ i z. (kinds w r h s t al i (minus-in (d .to) (r .stopped) i z), minus-in (d .to) (r .stopped) i z)) (y .holds .heard) .live Start k i x);
         gone = gone;
       }
@@ -146,19 +157,19 @@ module _ (w : ℕ → Type 0) (r : Run) (h : Held w r) (s : ℕ) (t : Step) (al 
   m x = minus (both (d .to) x) (withSite (r .stopped) s)
 
   abbrev p : ℕ → Run
-  p x = partRun r s (K w r h s t al) (m x)
+  p x = partRun r s kind (m x)
 
   pub part-owed : (x : ℕ) → Owed (viewOf w r) → Owed (viewOf w (eventOf r (Cut s t x) .run))
   part-owed x o =
       subst (λ (a : Run). Owed (viewOf w a)) (sym (part-run w r h s t al x))
       (owed-stopped (viewOf w r) (viewOf w (p x)) s
       (record {
-        runs = λ i. still-runs r s (s8 w r h s t al) i (p x .net);
+        runs = λ i. still-runs r s most i (p x .net);
         st = λ i. refl;
         ld = λ i. refl;
-        stay = λ c k i ne. ⊎-elim (λ z. inl (sent-old (stoppedNet (r .net) s) (K w r h s t al) s (m x) (length-map (r .net) _ ∙ h .shape .net) (number c) k i (stopped-old (r .net) s (number c) k i z ne))) (λ z. inr z);
+        stay = λ c k i ne. ⊎-elim (λ z. inl (sent-old (stoppedNet (r .net) s) kind s (m x) (length-map (r .net) _ ∙ h .shape .net) (number c) k i (stopped-old (r .net) s (number c) k i z ne))) (λ z. inr z);
         only = λ k i ne z. ⊎-elim (λ u. u) (λ u. absurd (ne (sym (u .1))))
-            (partly-less w w r (h .shape) s (al .runs .least) (s8 w r h s t al) (K w r h s t al) (m x) (y .κ) (λ i. In (both (d .to) x) i)
+            (partly-less w w r (h .shape) s (al .runs .least) most kind (m x) (y .κ) (λ i. In (both (d .to) x) i)
             (λ i z. (kinds w r h s t al i (both-l (d .to) x i (minus-in (both (d .to) x) (withSite (r .stopped) s) i z)), minus-in (both (d .to) x) (withSite (r .stopped) s) i z)) .live Start k i z);
       }) o)
 
@@ -182,11 +193,11 @@ module _ (w : ℕ → Type 0) (r : Run) (h : Held w r) (o : Owed (viewOf w r)) w
           subst (λ (a : Ran). Owed (viewOf w (a .run))) (sym (n .done))
           (owed-stopped (viewOf w r) (viewOf w (stoppedAt r s)) s
           (record {
-            runs = stopped-view r s (omega (arith, n .runs .most, good r (n .sound) .most)) w w .runs;
+            runs = stopped-view r s (omega (arith, n .runs .most, sound-parts r (h .shape) (n .sound) .most)) w w .runs;
             st = λ i. unfold stoppedAt in refl;
             ld = λ i. unfold stoppedAt in refl;
             stay = λ c k i ne. unfold stoppedAt in ⊎-elim (λ z. inl (stopped-old (r .net) s (number c) k i z ne)) (λ z. inr z);
-            only = λ k i ne. stopped-view r s (omega (arith, n .runs .most, good r (n .sound) .most)) w w .live Start k i;
+            only = λ k i ne. stopped-view r s (omega (arith, n .runs .most, sound-parts r (h .shape) (n .sound) .most)) w w .live Start k i;
           }) o)
 
 pub told-owed : (w : ℕ → Type 0) (t : Tale) (es : List Event) → Held w (t .run) → Owed (viewOf w (t .run)) → Owed (viewOf w (told t es .run))

@@ -1,26 +1,28 @@
 -- The number that every accepted event lowers: outstanding messages by their weight, what each running site may still do, and one for each pair
 -- of sites of which both run, or one runs and does not know that the other stopped.
 -- Assumes nothing.
-use Prim.Native.Nat.{ℕ, zero, suc, _+_, _-_, _*_, _/_, _^_, _≤_, _<_}
-use mathlib.Core.Bool.{Bool, true, false, cond, not, _&&_, _||_, true≢false, false≢true}
-use mathlib.Core.List.{List, [], _∷_, map}
-use mathlib.Core.Path.{_≡_, refl, sym, ap, subst, _∙_}
-use mathlib.Core.Logic.{_≢_, _⊎_, inl, inr, ⊎-elim}
+use Prim.Native.Nat.{ℕ, suc, _+_, _-_, _*_, _/_, _^_, _≤_, _<_}
+use mathlib.Core.Bool.{Bool, true, false, cond, not, false≢true}
+use mathlib.Core.List.{List}
+use mathlib.Core.Path.{_≡_, refl, ap, subst}
+use mathlib.Core.Logic.{_≢_}
 use native.Mathlib.Decide.{ℕ-discrete, decLt}
 use native.Mathlib.Omega.{arith}
-use lib.Dec.{eqb, ltb}
+use lib.Dec.{ltb}
 use lib.ListN.{length, getD, set}
 use lib.Seq.{getD-set-same, getD-set-other, set-out}
-use borrow.Author.Tests.{lt-ltb, ltb-true}
-use Rattle.sets.specs.Sets.{bit, isSite, has, union, without, withSite}
-use Rattle.sets.specs.SetLaws.{Site, has-site, one-if, members}
+use borrow.Author.Tests.{lt-ltb}
+use Rattle.sets.specs.Sets.{bit, isSite, has, union, without}
+use Rattle.sets.specs.SetLaws.{has-site, one-if, members}
 use Rattle.site.specs.declared.Site.{Site as Record}
 use Rattle.run.specs.declared.Run.{Run}
 use Rattle.run.specs.Run.{place, receivers, freshRun}
-use Rattle.promise.specs.SetsMembers.{In, is-not, in?, in-none, without-in, in-with, with-in, not-not}
-use Rattle.promise.specs.RunViews.{recordOf, Out, Placed, place-is, placed?, past, sentNet, takenNet, stoppedNet, stopped-at}
-use Rattle.promise.specs.Count.{sum, sum-le, sum-lt, sum-at, members-union, members-le, members-without}
-use Rattle.promise.specs.Stepping.{weigh}
+use Rattle.run.specs.Views.{Place, isPlace, place-parts, parts-place, place-is, place-none}
+use Rattle.sets.specs.Truths.{clash, fails}
+use Rattle.promise.specs.SetsMembers.{In, without-in}
+use Rattle.promise.specs.RunViews.{recordOf, Out, out-placed, sentNet, takenNet, stoppedNet, stopped-at}
+use Rattle.promise.specs.Count.{by-size, sum, sum-le, sum-lt, sum-at, members-union, members-le, members-without}
+use Rattle.promise.specs.Brings.{heavy, weigh}
 use Rattle.promise.specs.Measure.{own}
 
 -- ---- messages
@@ -43,49 +45,42 @@ scale-le : (b : Bool) (x y : ℕ) → x ≤ y → cond b 2 1 * x ≤ cond b 2 1 
 scale-le true x y h = omega arith
 scale-le false x y h = omega arith
 
-abbrev heavy : ℕ → Bool
-heavy K = eqb K 1 || eqb K 4 || eqb K 5
+module _ (net : List ℕ) (len : length net ≡ 72) (K s : ℕ) (h : Place K s) where
+  at : place K s ≡ 8 * (K - 1) + (s - 1)
+  at = place-is K s (parts-place K s h)
 
-module _ (net : List ℕ) (len : length net ≡ 72) (K s : ℕ) (h : Placed K s) where
   in-net : place K s < 72
-  in-net = omega (arith, place-is K s h, h .lowest, h .highest, h .site .least, h .site .most)
+  in-net = omega (arith, at)
 
   kind-at : place K s / 8 + 1 ≡ K
-  kind-at = omega (arith, place-is K s h, h .lowest, h .highest, h .site .least, h .site .most)
+  kind-at = omega (arith, at)
 
   -- one entry is replaced by m
-  entry : (m : ℕ) → messages (set net (place K s) m) + weigh K * members (receivers net K s) 8 ≡ messages net + weigh K * members m 8
+  entry-sum : (m : ℕ) → messages (set net (place K s) m) + weigh K * members (receivers net K s) 8 ≡ messages net + weigh K * members m 8
   unfolding messages
-  entry m =
+  entry-sum m =
       subst (λ (k : ℕ). sum 72 (weighAt (set net (place K s) m)) + weigh k * members (receivers net K s) 8 ≡ sum 72 (weighAt net) + weigh k * members m 8) kind-at
       (subst (λ (y : ℕ). sum 72 (weighAt (set net (place K s) m)) + weighAt net (place K s) ≡ sum 72 (weighAt net) + weigh (place K s / 8 + 1) * members y 8) (getD-set-same net (place K s) m 0 (omega (arith, in-net)))
       (sum-at 72 (weighAt (set net (place K s) m)) (weighAt net) (place K s) in-net (λ i ne. ap (λ (y : ℕ). weigh (i / 8 + 1) * members y 8) (getD-set-other net (place K s) i m 0 ne))))
 
 pub messages-sent : (net : List ℕ) (len : length net ≡ 72) (K s m : ℕ) → messages (sentNet net K s m) ≤ messages net + weigh K * members m 8
-messages-sent net len K s m = go (placed? K s)
+messages-sent net len K s m = go (isPlace K s) refl
   where
-    go : Placed K s ⊎ (place K s ≡ 72) → messages (sentNet net K s m) ≤ messages net + weigh K * members m 8
-    go (inr e) = rw (set-out net (place K s) (union (receivers net K s) m) (omega arith)) (omega arith)
-    go (inl h) =
+    go : (b : Bool) → isPlace K s ≡ b → messages (sentNet net K s m) ≤ messages net + weigh K * members m 8
+    go false e = rw (set-out net (place K s) (union (receivers net K s) m) (omega (arith, place-none K s e))) (omega arith)
+    go true e =
         omega (
           arith,
-          entry net len K s h (union (receivers net K s) m),
+          entry-sum net len K s (place-parts K s e) (union (receivers net K s) m),
           scale (heavy K) (members (union (receivers net K s) m) 8) (members (receivers net K s) 8) (members m 8) (members-union (receivers net K s) m 8),
         )
-
-pub out-placed : (net : List ℕ) → length net ≡ 72 → (K k i : ℕ) → Out net K k i → Placed K k
-out-placed net len K k i x = go (placed? K k)
-  where
-    go : Placed K k ⊎ (place K k ≡ 72) → Placed K k
-    go (inl h) = h
-    go (inr e) = absurd (in-none i (rw (past net (place K k) (omega arith)) at x))
 
 module _ (net : List ℕ) (len : length net ≡ 72) (K k j : ℕ) (x : Out net K k j) where
   pub messages-taken : messages (takenNet net K k j) + weigh K ≤ messages net
   messages-taken =
       omega (
         arith,
-        entry net len K k (out-placed net len K k j x) (without (receivers net K k) j),
+        entry-sum net len K k (out-placed net len K k j x) (without (receivers net K k) j),
         scale-one (heavy K) (members (without (receivers net K k) j) 8) (members (receivers net K k) 8)
             (members-without (receivers net K k) j 8 x (has-site (receivers net K k) j x .least) (has-site (receivers net K k) j x .most)),
       )
@@ -213,7 +208,7 @@ module _ (r q : Run) (e : r .n ≡ q .n) (stops : (i : ℕ) → In (r .stopped) 
   pairs-learn s o s1 sn o1 on ne run down old new = go (decLt s o)
     where
       run′ : has (r .stopped) s ≡ false
-      run′ = not-not (has (r .stopped) s) (λ h. is-not (has (q .stopped) s) (stops s h) run)
+      run′ = fails (has (r .stopped) s) (λ h. clash (stops s h) run)
 
       s′ : suc (s - 1) ≡ s
       s′ = omega arith
@@ -237,13 +232,4 @@ potential-is r = refl
 -- of a fresh run
 pub fresh-potential : (n : ℕ) → 2 ≤ n → n ≤ 8 → potential (freshRun n) ≡ 2 * n ^ 2 + 3 * n - 1
 unfolding potential messages parts partOf pairs pairAt own sum members has bit isSite
-fresh-potential zero p q = absurd (omega arith)
-fresh-potential (suc zero) p q = absurd (omega arith)
-fresh-potential (suc (suc zero)) p q = refl
-fresh-potential (suc (suc (suc zero))) p q = refl
-fresh-potential (suc (suc (suc (suc zero)))) p q = refl
-fresh-potential (suc (suc (suc (suc (suc zero))))) p q = refl
-fresh-potential (suc (suc (suc (suc (suc (suc zero)))))) p q = refl
-fresh-potential (suc (suc (suc (suc (suc (suc (suc zero))))))) p q = refl
-fresh-potential (suc (suc (suc (suc (suc (suc (suc (suc zero)))))))) p q = refl
-fresh-potential (suc (suc (suc (suc (suc (suc (suc (suc (suc n))))))))) p q = absurd (omega arith)
+fresh-potential = by-size (λ n. potential (freshRun n) ≡ 2 * n ^ 2 + 3 * n - 1) refl refl refl refl refl refl refl

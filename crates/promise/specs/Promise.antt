@@ -16,7 +16,7 @@ use Rattle.run.specs.Event.{freshOf, eventOf}
 use Rattle.run.specs.After.{after}
 use Rattle.promise.specs.Words.{IsSite, reached, Accepts, Voted}
 use Rattle.promise.specs.Examples.{posting, longest, posting-commits, posting-writes, longest-accepts}
-use Rattle.promise.specs.Reached.{agree, keep, halt, vote, peace, decide}
+use Rattle.promise.specs.Reached.{agree, committed, aborted, halted, vote, peace, decide}
 use Rattle.promise.specs.Falling.{within-bound, accepted-bound}
 
 module _ (n : ℕ) (least : 2 ≤ n) (most : n ≤ 8) where
@@ -26,14 +26,14 @@ module _ (n : ℕ) (least : 2 ≤ n) (most : n ≤ 8) where
     agreement = agree n least most es
 
     -- Neither state is left, whatever events follow, and a stopped site stays stopped.
-    pub commit-stays : (fs : List Event) (i : ℕ) → IsSite n i → stateOf (reached n es) i ≡ C → stateOf (reached n (es ++ fs)) i ≡ C
-    commit-stays = keep n least most es C tt
+    pub commit-stays : (fs : List Event) (i : ℕ) → stateOf (reached n es) i ≡ C → stateOf (reached n (es ++ fs)) i ≡ C
+    commit-stays = committed n least most es
 
-    pub abort-stays : (fs : List Event) (i : ℕ) → IsSite n i → stateOf (reached n es) i ≡ A → stateOf (reached n (es ++ fs)) i ≡ A
-    abort-stays = keep n least most es A tt
+    pub abort-stays : (fs : List Event) (i : ℕ) → stateOf (reached n es) i ≡ A → stateOf (reached n (es ++ fs)) i ≡ A
+    abort-stays = aborted n least most es
 
     pub stopped-stays : (fs : List Event) (i : ℕ) → hasStopped (reached n es) i ≡ true → hasStopped (reached n (es ++ fs)) i ≡ true
-    stopped-stays = halt n least most es
+    stopped-stays = halted n least most es
 
     -- None commits unless all n voted yes.
     pub all-voted : (i : ℕ) → IsSite n i → stateOf (reached n es) i ≡ C → (j : ℕ) → IsSite n j → Voted (freshOf n .run) es j

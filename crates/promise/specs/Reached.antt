@@ -3,7 +3,7 @@
 use Prim.Native.Nat.{ℕ, _≤_}
 use mathlib.Core.Bool.{true, false}
 use mathlib.Core.List.{List, _++_}
-use mathlib.Core.Path.{_≡_, sym, ap, _∙_}
+use mathlib.Core.Path.{_≡_, sym, ap, subst, _∙_}
 use mathlib.Core.Logic.{_≢_, _⊎_, inl, inr, ⊎-elim}
 use Rattle.site.specs.declared.State.{State}
 use Rattle.site.specs.declared.State.the-variants.{A, C}
@@ -14,15 +14,15 @@ use Rattle.run.specs.declared.Event.the-variants.{Stop}
 use Rattle.run.specs.Run.{stateOf, hasStopped}
 use Rattle.run.specs.Event.{freshOf, eventOf}
 use Rattle.promise.specs.RunViews.{recordOf, record-at}
-use Rattle.promise.specs.RunFrame.{stopped-kept, told-keeps, after-on}
+use Rattle.promise.specs.RunAfter.{told-keeps, after-on}
 use Rattle.promise.specs.View.{seen}
-use Rattle.promise.specs.Safety.{Final}
-use Rattle.promise.specs.Seen.{viewOf}
 use Rattle.promise.specs.Words.{IsSite, reached, Accepts, Voted}
 use Rattle.promise.specs.Keeping.{Held, With, at-peace}
-use Rattle.promise.specs.Fresh.{nothing, sites-after, held-after, told-settled}
+use Rattle.promise.specs.Fresh.{nothing, sites-after, held-after}
 use Rattle.promise.specs.Stuck.{decided-after}
-use Rattle.run.specs.After.{after}
+use Rattle.run.specs.After.{Tale, after}
+use Rattle.run.specs.RunLaws.{frame, abort-stays, commit-stays}
+use Rattle.run.specs.GoodRuns.{Good, after-good}
 
 -- the state of a site, as the invariant sees it
 state-of : (r : Run) (i : ℕ) → 1 ≤ i → recordOf (r .sites) i .state ≡ stateOf r i
@@ -46,14 +46,18 @@ module _ (n : ℕ) (least : 2 ≤ n) (most : n ≤ 8) (es : List Event) where
   pub agree : (i j : ℕ) → IsSite n i → IsSite n j → stateOf r i ≡ C → stateOf r j ≡ A → ⊥
   agree i j p q c a = held .inv .aborted (seen j (rw (in-state j A q a) tt)) .apart (seen i (rw (in-state i C p c) tt))
 
-  pub keep : (s : State) → Final s → (fs : List Event) (i : ℕ) → IsSite n i → stateOf r i ≡ s → stateOf (reached n (es ++ fs)) i ≡ s
-  keep s f fs i p e =
-      sym (state-of (reached n (es ++ fs)) i (p .0)) ∙ ap (λ t. viewOf votes (t .run) .st i) (after-on n es fs)
-      ∙ told-settled votes (after n es) fs held i (rw (in-state i s p e) f) ∙ in-state i s p e
+  -- what every event of a good run keeps holds after further events
+  further : (M : Run → Type 0) → ((r : Run) (e : Event) → Good r → M r → M (eventOf r e .run)) → (fs : List Event) → M r → M (reached n (es ++ fs))
+  further M f fs m = subst (λ (t : Tale). M (t .run)) (sym (after-on n es fs)) (told-keeps M f (after n es) fs (after-good n es least most) m)
 
-  pub halt : (fs : List Event) (i : ℕ) → hasStopped r i ≡ true → hasStopped (reached n (es ++ fs)) i ≡ true
-  unfolding hasStopped
-  halt fs i e = rw (reached, after-on n es fs) (told-keeps (λ (r : Run). hasStopped r i ≡ true) (λ r e h. stopped-kept r i h e) (after n es) fs e)
+  pub committed : (fs : List Event) (i : ℕ) → stateOf r i ≡ C → stateOf (reached n (es ++ fs)) i ≡ C
+  committed fs i = further (λ (r : Run). stateOf r i ≡ C) (λ r e g. commit-stays r e i) fs
+
+  pub aborted : (fs : List Event) (i : ℕ) → stateOf r i ≡ A → stateOf (reached n (es ++ fs)) i ≡ A
+  aborted fs i = further (λ (r : Run). stateOf r i ≡ A) (λ r e g. abort-stays r e i) fs
+
+  pub halted : (fs : List Event) (i : ℕ) → hasStopped r i ≡ true → hasStopped (reached n (es ++ fs)) i ≡ true
+  halted fs i = further (λ (r : Run). hasStopped r i ≡ true) (λ r e g. frame r e (g .bytes .shape) .stopped i) fs
 
   pub vote : (i : ℕ) → IsSite n i → stateOf r i ≡ C → (j : ℕ) → IsSite n j → Voted (freshOf n .run) es j
   vote i p c j q =

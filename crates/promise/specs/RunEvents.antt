@@ -1,27 +1,24 @@
 -- An event is accepted with what it does, or refused and changes nothing; a stop inside a step is accepted exactly when the step is.
 -- Assumes nothing.
-use Prim.Native.Nat.{ℕ, _≤_, _<_}
-use mathlib.Core.Bool.{Bool, true, false, cond, not, _&&_}
-use mathlib.Core.Path.{_≡_, refl, sym, ap, _∙_}
+use Prim.Native.Nat.{ℕ, _≤_}
+use mathlib.Core.Bool.{Bool, true, false, _&&_}
+use mathlib.Core.Path.{_≡_, refl}
 use mathlib.Core.Logic.{_⊎_, inl, inr}
 use native.Mathlib.Omega.{arith}
 use lib.Dec.{leb}
 use borrow.Author.Tests.{leb-true, le-leb}
-use Rattle.sets.specs.Sets.{has, both, countOf}
+use Rattle.sets.specs.Sets.{both, countOf}
 use Rattle.site.specs.declared.Outcome.{Outcome}
 use Rattle.site.specs.declared.Outcome.the-variants.{Taken, Passed, Refused}
 use Rattle.site.specs.declared.Step.{Step}
-use Rattle.site.specs.declared.Answer.{Answer}
 use Rattle.site.specs.Site.{namesOf}
 use Rattle.site.specs.Step.{stepOf}
 use Rattle.run.specs.declared.Run.{Run}
-use Rattle.run.specs.declared.Event.{Event}
 use Rattle.run.specs.declared.Event.the-variants.{Act, Stop, Cut}
-use Rattle.run.specs.declared.Ran.{Ran}
 use Rattle.run.specs.Run.{siteAt, hasStopped, stoppedAt}
 use Rattle.run.specs.Sound.{soundRun}
-use Rattle.run.specs.Event.{none, refusedRun, isActor, isThere, acted, cutShort, ranStep, ranCut, grounded, stopped, happened, eventOf}
-use Rattle.promise.specs.SetsMembers.{and-l, and-r}
+use Rattle.run.specs.Event.{none, refusedRun, isActor, isThere, acted, cutShort, ranStep, grounded, stopped, eventOf}
+use Rattle.sets.specs.Truths.{and-l, and-r}
 use Rattle.promise.specs.RunViews.{Runs}
 
 -- An outcome that is no refusal.

@@ -1,27 +1,23 @@
 -- A run through its parts: site records, running sites, outstanding messages, and how each change of a run changes them.
 -- Assumes nothing.
-use Prim.Native.Nat.{ℕ, zero, suc, _+_, _-_, _*_, _≤_, _<_}
-use mathlib.Core.Bool.{Bool, true, false, cond, not, _&&_}
+use Prim.Native.Nat.{ℕ, zero, suc, _-_, _≤_}
+use mathlib.Core.Bool.{Bool, true, false, cond, _&&_}
 use mathlib.Core.List.{List, [], _∷_, map}
 use mathlib.Core.Path.{_≡_, refl, sym, ap, subst, _∙_}
 use mathlib.Core.Logic.{_≢_, _⊎_, inl, inr, ⊎-elim}
-use native.Mathlib.Decide.{ℕ-discrete, decLt}
+use native.Mathlib.Decide.{ℕ-discrete}
 use native.Mathlib.Omega.{arith}
-use lib.Dec.{eqb, leb, ltb}
-use lib.ListN.{length, getD, set, length-set, length-map}
-use lib.Seq.{getD-set-same, getD-set-other, set-out}
-use borrow.Author.Tests.{le-leb, leb-true, leb-false, lt-leb}
-use Rattle.sets.specs.Sets.{isSite, has, union, minus, without, withSite}
-use Rattle.sets.specs.SetLaws.{Site, site-is, is-site}
+use lib.Dec.{eqb}
+use lib.ListN.{length, getD, set}
+use lib.Seq.{getD-set-same, getD-set-other}
+use borrow.Author.Tests.{eqb-true, eq-eqb}
+use Rattle.sets.specs.Sets.{has, union, minus, without}
 use Rattle.site.specs.declared.Site.{Site as Record}
 use Rattle.run.specs.declared.Run.{Run}
-use Rattle.run.specs.Run.{noSite, siteAt, isKind, place, receivers, withRecord, withNet, takenOut, sentBy, stoppedAt}
-use Rattle.promise.specs.SetsMembers.{In, and-true, and-l, and-r, in-none, union-in, in-left, in-right, minus-in, minus-out, in-minus, with-in, in-with, without-in, without-out, in-without}
-
--- The lists of a run have their lengths.
-pub record Shaped (r : Run) : Type 0 where
-  pub sites : length (r .sites) ≡ 8
-  pub net : length (r .net) ≡ 72
+use Rattle.run.specs.Views.{Place, isPlace, place-parts, parts-place, none-past, entry}
+use Rattle.run.specs.Run.{noSite, siteAt, place, receivers}
+use Rattle.sets.specs.Truths.{and-l, and-r}
+use Rattle.promise.specs.SetsMembers.{In, in-none, union-in, in-left, in-right, without-in, without-out, in-without}
 
 -- Site i's record; site 0 is none.
 abbrev pub recordOf : List Record → ℕ → Record
@@ -58,67 +54,41 @@ pub record Runs (r : Run) (i : ℕ) : Type 0 where
 abbrev pub Out : List ℕ → ℕ → ℕ → ℕ → Type 0
 Out net K k i = In (receivers net K k) i
 
--- Where a kind and a sender stand in the network.
-pub record Placed (K s : ℕ) : Type 0 where
-  pub lowest : 1 ≤ K
-  pub highest : K ≤ 9
-  pub site : Site s
+-- One entry of the network is replaced by m.
+module _ (net : List ℕ) (K s m : ℕ) (len : length net ≡ 72) (K′ s′ i : ℕ) where
+  -- it is the one looked for
+  abbrev this : Bool
+  this = isPlace K s && (eqb K′ K && eqb s′ s)
 
-pub place-is : (K s : ℕ) → Placed K s → place K s ≡ 8 * (K - 1) + (s - 1)
-unfolding place isKind
-place-is K s h = simp (le-leb 1 K (h .lowest), le-leb K 9 (h .highest), site-is s (h .site .least) (h .site .most))
+  same : this ≡ true → (K ≡ K′) × (s ≡ s′)
+  same e =
+      let f : (eqb K′ K && eqb s′ s) ≡ true = and-r (isPlace K s) (eqb K′ K && eqb s′ s) e in
+      (sym (eqb-true K′ K (and-l (eqb K′ K) (eqb s′ s) f)), sym (eqb-true s′ s (and-r (eqb K′ K) (eqb s′ s) f)))
 
-pub placed? : (K s : ℕ) → Placed K s ⊎ (place K s ≡ 72)
-unfolding place isKind
-placed? K s = go (leb 1 K) (leb K 9) (isSite s) refl refl refl
+  pub entry-cases : Out (set net (place K s) m) K′ s′ i → Out net K′ s′ i ⊎ ((K ≡ K′) × (s ≡ s′) × In m i)
+  entry-cases x = go this refl (subst (λ (y : ℕ). In y i) (entry net K s m K′ s′ len) x)
+    where
+      go : (b : Bool) → this ≡ b → In (cond b m (receivers net K′ s′)) i → Out net K′ s′ i ⊎ ((K ≡ K′) × (s ≡ s′) × In m i)
+      go true e y = inr (same e .0, same e .1, y)
+      go false e y = inl y
+
+  pub entry-kept : Out net K′ s′ i → (K ≡ K′ → s ≡ s′ → In (receivers net K s) i → In m i) → Out (set net (place K s) m) K′ s′ i
+  entry-kept x f = subst (λ (y : ℕ). In y i) (sym (entry net K s m K′ s′ len)) (go this refl)
+    where
+      go : (b : Bool) → this ≡ b → In (cond b m (receivers net K′ s′)) i
+      go true e = f (same e .0) (same e .1) (rw (same e .0, same e .1) x)
+      go false e = x
+
+pub entry-same : (net : List ℕ) (K s m : ℕ) → length net ≡ 72 → Place K s → receivers (set net (place K s) m) K s ≡ m
+entry-same net K s m len p = entry net K s m K s len ∙ simp (parts-place K s p, eq-eqb K K refl, eq-eqb s s refl)
+
+-- What is outstanding has a place.
+pub out-placed : (net : List ℕ) → length net ≡ 72 → (K k i : ℕ) → Out net K k i → Place K k
+out-placed net len K k i x = go (isPlace K k) refl
   where
-    go : (a b c : Bool) → leb 1 K ≡ a → leb K 9 ≡ b → isSite s ≡ c → Placed K s ⊎ (cond (a && b && c) (8 * (K - 1) + (s - 1)) 72 ≡ 72)
-    go true true true p q u = inl (record { lowest = leb-true 1 K p; highest = leb-true K 9 q; site = is-site s u })
-    go true true false p q u = inr refl
-    go true false c p q u = inr refl
-    go false b c p q u = inr refl
-
--- What stands past the end is nothing.
-pub past : (net : List ℕ) (p : ℕ) → length net ≤ p → _≡_ {A = ℕ} (getD net p 0) 0
-past [] p h = refl
-past (x ∷ l) zero h = absurd (omega arith)
-past (x ∷ l) (suc p) h = past l p (omega arith)
-
--- One entry of the network is replaced.
-module _ (net : List ℕ) (K s m : ℕ) (len : length net ≡ 72) where
-  pub entry-same : Placed K s → receivers (set net (place K s) m) K s ≡ m
-  entry-same h = getD-set-same net (place K s) m 0 (omega (arith, place-is K s h, h .lowest, h .highest, h .site .least, h .site .most))
-
-  pub entry-other : (K′ s′ : ℕ) → (K ≡ K′ → s ≡ s′ → ⊥) → receivers (set net (place K s) m) K′ s′ ≡ receivers net K′ s′
-  entry-other K′ s′ ne = go (placed? K s) (placed? K′ s′)
-    where
-      go : Placed K s ⊎ (place K s ≡ 72) → Placed K′ s′ ⊎ (place K′ s′ ≡ 72) → receivers (set net (place K s) m) K′ s′ ≡ receivers net K′ s′
-      go (inr e) y = ap (λ (l : List ℕ). receivers l K′ s′) (set-out net (place K s) m (omega arith))
-      go (inl h) (inr e) =
-          getD-set-other net (place K s) (place K′ s′) m 0 (λ d. omega (arith, place-is K s h, h .lowest, h .highest, h .site .least, h .site .most))
-      go (inl h) (inl h′) =
-          getD-set-other net (place K s) (place K′ s′) m 0
-          (λ d. ne (omega (arith, place-is K s h, place-is K′ s′ h′, h .lowest, h .site .least, h .site .most, h′ .lowest, h′ .site .least, h′ .site .most))
-          (omega (arith, place-is K s h, place-is K′ s′ h′, h .lowest, h .site .least, h .site .most, h′ .lowest, h′ .site .least, h′ .site .most)))
-
-  -- one entry is replaced, or none
-  pub entry-cases : (K′ s′ i : ℕ) → Out (set net (place K s) m) K′ s′ i → Out net K′ s′ i ⊎ ((K ≡ K′) × (s ≡ s′) × In m i)
-  entry-cases K′ s′ i x = go (ℕ-discrete K K′) (ℕ-discrete s s′) (placed? K s)
-    where
-      go : Dec (K ≡ K′) → Dec (s ≡ s′) → Placed K s ⊎ (place K s ≡ 72) → Out net K′ s′ i ⊎ ((K ≡ K′) × (s ≡ s′) × In m i)
-      go (no ne) d h = inl (rw (entry-other K′ s′ (λ e _. ne e)) at x)
-      go (yes e) (no ne) h = inl (rw (entry-other K′ s′ (λ _ e. ne e)) at x)
-      go (yes e) (yes e′) (inr p) = inl (subst (λ (l : List ℕ). Out l K′ s′ i) (set-out net (place K s) m (omega arith)) x)
-      go (yes e) (yes e′) (inl h) = inr (e, e′, rw (entry-same h) at (rw (← e, ← e′) at x))
-
-  pub entry-kept : (K′ s′ i : ℕ) → Out net K′ s′ i → (In (receivers net K s) i → In m i) → Out (set net (place K s) m) K′ s′ i
-  entry-kept K′ s′ i x f = go (ℕ-discrete K K′) (ℕ-discrete s s′) (placed? K s)
-    where
-      go : Dec (K ≡ K′) → Dec (s ≡ s′) → Placed K s ⊎ (place K s ≡ 72) → Out (set net (place K s) m) K′ s′ i
-      go (no ne) d h = rw (entry-other K′ s′ (λ e _. ne e)) x
-      go (yes e) (no ne) h = rw (entry-other K′ s′ (λ _ e. ne e)) x
-      go (yes e) (yes e′) (inr p) = subst (λ (l : List ℕ). Out l K′ s′ i) (sym (set-out net (place K s) m (omega arith))) x
-      go (yes e) (yes e′) (inl h) = rw (← e, ← e′, entry-same h) (f (rw (← e, ← e′) at x))
+    go : (b : Bool) → isPlace K k ≡ b → Place K k
+    go true e = place-parts K k e
+    go false e = absurd (in-none i (rw (none-past net K k len e) at x))
 
 -- The network after messages of kind K from s were written to the sites of m, after the message of kind K from k to j was taken out, after j stopped.
 abbrev pub sentNet : List ℕ → ℕ → ℕ → ℕ → List ℕ
@@ -137,9 +107,9 @@ module _ (net : List ℕ) (K s m : ℕ) (len : length net ≡ 72) where
       (entry-cases net K s (union (receivers net K s) m) len K′ k i x)
 
   pub sent-old : (K′ k i : ℕ) → Out net K′ k i → Out (sentNet net K s m) K′ k i
-  sent-old K′ k i x = entry-kept net K s (union (receivers net K s) m) len K′ k i x (in-left (receivers net K s) m i)
+  sent-old K′ k i x = entry-kept net K s (union (receivers net K s) m) len K′ k i x (λ _ _. in-left (receivers net K s) m i)
 
-  pub sent-new : Placed K s → (i : ℕ) → In m i → Out (sentNet net K s m) K s i
+  pub sent-new : Place K s → (i : ℕ) → In m i → Out (sentNet net K s m) K s i
   sent-new h i x = rw (entry-same net K s (union (receivers net K s) m) len h) (in-right (receivers net K s) m i x)
 
 module _ (net : List ℕ) (K k j : ℕ) (len : length net ≡ 72) where
@@ -150,18 +120,19 @@ module _ (net : List ℕ) (K k j : ℕ) (len : length net ≡ 72) where
   pub taken-old : (K′ k′ i : ℕ) → Out net K′ k′ i → Out (takenNet net K k j) K′ k′ i ⊎ ((K ≡ K′) × (k ≡ k′) × (i ≡ j))
   taken-old K′ k′ i x = go (ℕ-discrete K K′) (ℕ-discrete k k′) (ℕ-discrete i j)
     where
+      stays : (K ≡ K′ → k ≡ k′ → i ≢ j) → Out (takenNet net K k j) K′ k′ i
+      stays n = entry-kept net K k (without (receivers net K k) j) len K′ k′ i x (λ e f y. in-without (receivers net K k) j i y (n e f))
+
       go : Dec (K ≡ K′) → Dec (k ≡ k′) → Dec (i ≡ j) → Out (takenNet net K k j) K′ k′ i ⊎ ((K ≡ K′) × (k ≡ k′) × (i ≡ j))
-      go (yes e) (yes e′) (yes e″) = inr (e, e′, e″)
-      go (no ne) d d′ = inl (rw (entry-other net K k (without (receivers net K k) j) len K′ k′ (λ e _. ne e)) x)
-      go (yes e) (no ne) d′ = inl (rw (entry-other net K k (without (receivers net K k) j) len K′ k′ (λ _ e. ne e)) x)
-      go (yes e) (yes e′) (no ne) = inl (entry-kept net K k (without (receivers net K k) j) len K′ k′ i x (λ y. in-without (receivers net K k) j i y ne))
+      go (yes e) (yes f) (yes d) = inr (e, f, d)
+      go (no n) d d′ = inl (stays (λ e. absurd (n e)))
+      go (yes e) (no n) d′ = inl (stays (λ _ f. absurd (n f)))
+      go (yes e) (yes f) (no n) = inl (stays (λ _ _. n))
 
   pub taken-gone : Out (takenNet net K k j) K k j → ⊥
-  taken-gone x = go (placed? K k)
-    where
-      go : Placed K k ⊎ (place K k ≡ 72) → ⊥
-      go (inl h) = without-out (receivers net K k) j j (rw (entry-same net K k (without (receivers net K k) j) len h) at x) refl
-      go (inr e) = in-none j (rw (past net (place K k) (omega arith)) at (subst (λ (l : List ℕ). Out l K k j) (set-out net (place K k) (without (receivers net K k) j) (omega arith)) x))
+  taken-gone x =
+      let p : Place K k = out-placed net len K k j (taken-less K k j x) in
+      without-out (receivers net K k) j j (rw (entry-same net K k (without (receivers net K k) j) len p) at x) refl
 
 without-0 : (j : ℕ) → without 0 j ≡ 0
 unfolding without minus

@@ -7,12 +7,12 @@ use native.Mathlib.Decide.{ℕ-discrete, decLt}
 use native.Mathlib.Omega.{arith}
 use Rattle.site.specs.declared.State.{State}
 use Rattle.site.specs.declared.State.the-variants.{Q, W, P, A, C}
-use Rattle.promise.specs.Classes.{Kind, Start, Yes, No, MoveP, MoveW, Ack, Commit, Abort, byState, IsQ, IsW, IsA, IsC, QW, WA, PC, QWA, Order, Prepares, Yields, IsCommit, IsAbort, atOrder, Stands, Relies, First, Leads, IsYes, IsAck, Gives, order-gives, yes-gives, qw-not-a, pc-not-a, pc-not-qw, pc-not-wa, q-in-qw, wa-in-qwa, c-in-pc, rest-in-qwa}
-use Rattle.promise.specs.View.{View, Evidence, seen, told, EP, EA, EC, Open, Lead, Lowest, Mute, MayPrepare, MayAbort, MayCommit, nobody, Inv}
-use Rattle.promise.specs.Less.{Less, less, Votes, stop, stop-less, stop-inv, stop-prepare, stop-abort, stop-commit}
-use Rattle.promise.specs.Become.{upd, upd-same, upd-other, become, Fits, become-inv}
-use Rattle.promise.specs.Send.{send, Ready, May, send-inv}
-use Rattle.promise.specs.Does.{Everyone, Only, Uses, Does, begin-yes, begin-no, start-yes, start-no, give-up, prepare, move-p, stay-p, move-w, stay-w, commit, abort, over-q, over, end-a, end-c, noted, passed}
+use Rattle.promise.specs.Classes.{Kind, Start, Yes, No, MoveP, MoveW, Ack, Commit, Abort, byState, IsQ, WA, PC, QWA, Order, Prepares, Yields, atOrder, Stands, Relies, First, IsYes, IsAck, Gives, order-gives, yes-gives, wa-in-qwa, Final}
+use Rattle.promise.specs.View.{View, seen, told, EA, EC, Lead, Lowest, MayPrepare, MayAbort, MayCommit, nobody, Inv}
+use Rattle.promise.specs.Less.{Votes, stop, stop-inv, stop-prepare, stop-abort, stop-commit}
+use Rattle.promise.specs.Become.{upd-same, upd-other, become, Fits, become-inv}
+use Rattle.promise.specs.Send.{send, Ready, send-inv}
+use Rattle.promise.specs.Does.{Only, Uses, Does, begin-yes, begin-no, start-yes, start-no, give-up, prepare, move-p, stay-p, move-w, stay-w, commit, abort, over-q, over, end-a, end-c, noted, passed}
 use Rattle.promise.specs.Fitting.{ease-prepare, ease-abort, unprepared, fits-same, fits-a, fits-c, fits-w, fits-p, relies-q, obeyed, obey-p, obey-w}
 
 -- Orders that are safe to leave.
@@ -346,10 +346,6 @@ module _ (a : View) (j : ℕ) (v : Inv a) (r : a .runs j) (w : ℕ → Type 0) (
             beside-a = h .beside-a;
             beside-c = h .beside-c;
           }
-
--- The states that are never left.
-abbrev pub Final : State → Type 0
-Final s = byState ⊥ ⊥ ⊥ Unit Unit s
 
 -- A step leaves neither a nor c.
 module _ (a : View) (j : ℕ) (T : ℕ → Type 0) (v : Inv a) (r : a .runs j) where

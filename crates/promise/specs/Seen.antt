@@ -1,22 +1,22 @@
 -- The real run as the invariant sees it, and that a whole step and a cut one are no more than the invariant allows for.
 -- Assumes nothing.
-use Prim.Native.Nat.{ℕ, zero, suc, _+_, _-_, _*_, _≤_, _<_}
-use mathlib.Core.Bool.{Bool, true, false, cond}
+use Prim.Native.Nat.{ℕ, _-_, _≤_}
+use mathlib.Core.Bool.{cond}
 use mathlib.Core.List.{List}
 use mathlib.Core.Path.{_≡_, refl, sym, ap, subst, _∙_}
 use mathlib.Core.Logic.{_≢_, _⊎_, inl, inr, ⊎-elim}
 use native.Mathlib.Decide.{ℕ-discrete}
 use native.Mathlib.Omega.{arith}
 use lib.Dec.{eqb}
-use lib.ListN.{length, getD, set, length-map, length-set}
-use Rattle.sets.specs.Sets.{has, minus, both, withSite}
-use Rattle.sets.specs.SetLaws.{Site}
-use Rattle.site.specs.declared.State.{State}
+use lib.ListN.{length, set, length-map}
+use Rattle.sets.specs.Sets.{has, withSite}
 use Rattle.site.specs.declared.Site.{Site as Record}
 use Rattle.run.specs.declared.Run.{Run}
-use Rattle.run.specs.Run.{siteAt, sentBy, stoppedAt, withRecord}
-use Rattle.promise.specs.SetsMembers.{In, is-not, in?, not-not, minus-in, both-l, both-r, in-with, in-with-new}
-use Rattle.promise.specs.RunViews.{Shaped, recordOf, record-at, replaced, others, Runs, Out, sentNet, sent-cases, stoppedNet, stopped-less}
+use Rattle.run.specs.Run.{stoppedAt}
+use Rattle.sets.specs.Truths.{clash, fails}
+use Rattle.promise.specs.SetsMembers.{In, in-with, in-with-new}
+use Rattle.run.specs.Views.{Shape}
+use Rattle.promise.specs.RunViews.{recordOf, replaced, others, Runs, Out, sentNet, sent-cases, stoppedNet, stopped-less}
 use Rattle.promise.specs.Classes.{Kind, Start, Yes, No, MoveP, MoveW, Ack, Commit, Abort, byKind}
 use Rattle.promise.specs.View.{View}
 use Rattle.promise.specs.Less.{Less, stop}
@@ -75,7 +75,7 @@ abbrev pub partRun : Run → ℕ → ℕ → ℕ → Run
 partRun r j K m = record { n = r .n; stopped = withSite (r .stopped) j; sites = r .sites; net = sentNet (stoppedNet (r .net) j) K j m }
 
 -- Site j of r has a new record x and writes messages of kind K to a set; net is r's, perhaps with fewer messages.
-module _ (w w′ : ℕ → Type 0) (r : Run) (shape : Shaped r) (net : List ℕ) (len : length net ≡ 72) (j : ℕ) (j1 : 1 ≤ j) (j8 : j ≤ 8)
+module _ (w w′ : ℕ → Type 0) (r : Run) (shape : Shape r) (net : List ℕ) (len : length net ≡ 72) (j : ℕ) (j1 : 1 ≤ j) (j8 : j ≤ 8)
     (x : Record) (K m : ℕ) (κ : Kind) (T : ℕ → Type 0)
     (fewer : (K k i : ℕ) → Out net K k i → Out (r .net) K k i)
     (kind : (i : ℕ) → In m i → (K ≡ number κ) × T i)
@@ -117,8 +117,8 @@ module _ (w w′ : ℕ → Type 0) (r : Run) (shape : Shaped r) (net : List ℕ)
 module _ (r : Run) (j : ℕ) (j8 : j ≤ 8) where
   pub still-runs : (i : ℕ) (net : List ℕ) → Runs (record { n = r .n; stopped = withSite (r .stopped) j; sites = r .sites; net = net }) i → Runs r i × (i ≢ j)
   still-runs i net y = (
-    record { least = y .least; most = y .most; up = not-not (has (r .stopped) i) (λ h. is-not _ (in-with (r .stopped) j i h) (y .up)) },
-    λ e. is-not _ (in-with-new (r .stopped) j i (record { least = y .least; most = omega (arith, j8) }) e) (y .up),
+    record { least = y .least; most = y .most; up = fails (has (r .stopped) i) (λ h. clash (in-with (r .stopped) j i h) (y .up)) },
+    λ e. clash (in-with-new (r .stopped) j i (record { least = y .least; most = omega (arith, j8) }) e) (y .up),
   )
 
   pub stopped-view : (w w′ : ℕ → Type 0) → Less (viewOf w′ (stoppedAt r j)) (stop (viewOf w r) j (viewOf w′ r .voted))
@@ -134,7 +134,7 @@ module _ (r : Run) (j : ℕ) (j8 : j ≤ 8) where
       }
 
 -- Site j of r stops, and messages of kind K to a set still leave.
-module _ (w w′ : ℕ → Type 0) (r : Run) (shape : Shaped r) (j : ℕ) (j1 : 1 ≤ j) (j8 : j ≤ 8) (K m : ℕ) (κ : Kind) (T : ℕ → Type 0)
+module _ (w w′ : ℕ → Type 0) (r : Run) (shape : Shape r) (j : ℕ) (j1 : 1 ≤ j) (j8 : j ≤ 8) (K m : ℕ) (κ : Kind) (T : ℕ → Type 0)
     (kind : (i : ℕ) → In m i → (K ≡ number κ) × T i) where
   abbrev partly : Run
   partly = partRun r j K m

@@ -1,11 +1,11 @@
 -- One site's messages of one kind become live.
 -- Assumes nothing.
-use Prim.Native.Nat.{ℕ, _≤_, _<_}
-use mathlib.Core.Path.{_≡_, refl, sym, subst}
-use mathlib.Core.Logic.{_≢_, _⊎_, inl, inr, ⊎-elim}
+use Prim.Native.Nat.{ℕ, _<_}
+use mathlib.Core.Path.{_≡_, sym, subst}
+use mathlib.Core.Logic.{_⊎_, inl, inr, ⊎-elim}
 use Rattle.site.specs.declared.State.{State}
-use Rattle.promise.specs.Classes.{Kind, Yes, MoveP, MoveW, Ack, Commit, Abort, IsQ, IsW, IsA, IsC, PC, QWA, Order, Prepares, Yields, IsYes, IsAck, IsCommit, IsAbort, Stands, Relies, First, Leads, prepares-order, yields-order}
-use Rattle.promise.specs.View.{View, Evidence, seen, told, EP, EA, EC, Open, Lead, Lowest, Mute, MayPrepare, MayAbort, MayCommit, nobody, Inv}
+use Rattle.promise.specs.Classes.{Kind, Yes, MoveP, MoveW, Ack, IsA, IsC, PC, Order, Prepares, Yields, IsYes, IsAck, IsCommit, IsAbort, Stands, Relies, prepares-order, yields-order}
+use Rattle.promise.specs.View.{View, Evidence, seen, told, EP, EA, EC, Lead, Lowest, Mute, MayPrepare, MayAbort, MayCommit, nobody, Inv}
 
 -- Messages of kind κ from k to the sites of R, beside the live ones.
 abbrev pub send : View → Kind → ℕ → (ℕ → Type 0) → View

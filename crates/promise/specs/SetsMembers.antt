@@ -1,42 +1,20 @@
 -- Membership in a set of sites as a type, with one law for each operation, in both directions.
 -- Assumes nothing.
-use Prim.Native.Nat.{ℕ, _+_, _-_, _≤_, _<_}
-use mathlib.Core.Bool.{Bool, true, false, not, _&&_, _||_, true≢false, false≢true}
+use Prim.Native.Nat.{ℕ, _≤_, _<_}
+use mathlib.Core.Bool.{Bool, true, false, not, _&&_, _||_, true≢false}
 use mathlib.Core.Path.{_≡_, refl, sym, ap, _∙_}
 use mathlib.Core.Logic.{_≢_, _⊎_, inl, inr, ⊎-elim}
-use native.Mathlib.Omega.{arith}
 use lib.Dec.{eqb, leb, ltb}
-use borrow.Author.Tests.{eqb-true, eqb-false, eq-eqb, ne-eqb, leb-true, le-leb, ltb-true, lt-ltb, not-true, not-false}
-use Rattle.sets.specs.Sets.{isSite, has, weightOf, union, both, minus, withSite, without, subset, allOf, othersOf, belowOf}
-use Rattle.sets.specs.SetLaws.{Site, site-is, is-site, has-site, has-none, has-union, has-both, has-minus, has-weight, has-with, has-without, has-all, has-others, has-below, subset-has}
+use borrow.Author.Tests.{eqb-true, eqb-false, eq-eqb, ne-eqb, leb-true, le-leb, ltb-true, lt-ltb, not-true}
+use Rattle.sets.specs.Sets.{isSite, has, weightOf, union, both, minus, withSite, without, othersOf, belowOf}
+use Rattle.sets.specs.Truths.{and-l, and-r, and-i, or-e, or-l, or-r, clash}
+use Rattle.sets.specs.SetLaws.{Site, site-is, has-none, has-union, has-both, has-minus, has-weight, has-with, has-without, has-others, has-below}
 
 -- Site j is in m.
 abbrev pub In : ℕ → ℕ → Type 0
 In m j = has m j ≡ true
 
--- Tests of two Bools.
-pub and-true : (x y : Bool) → x ≡ true → y ≡ true → (x && y) ≡ true
-and-true x y p q = cc
-
-pub and-l : (x y : Bool) → (x && y) ≡ true → x ≡ true
-and-l true y e = refl
-and-l false y e = e
-
-pub and-r : (x y : Bool) → (x && y) ≡ true → y ≡ true
-and-r true y e = e
-and-r false y e = absurd (false≢true e)
-
-pub or-cases : (x y : Bool) → (x || y) ≡ true → (x ≡ true) ⊎ (y ≡ true)
-or-cases true y e = inl refl
-or-cases false y e = inr e
-
-pub or-l : (x y : Bool) → x ≡ true → (x || y) ≡ true
-or-l x y e = rw e refl
-
-pub or-r : (x y : Bool) → y ≡ true → (x || y) ≡ true
-or-r true y e = refl
-or-r false y e = e
-
+-- Tests of two Bools that fail.
 pub or-none : (x y : Bool) → (x || y) ≡ false → (x ≡ false) × (y ≡ false)
 or-none true y e = absurd (true≢false e)
 or-none false y e = (refl, e)
@@ -44,13 +22,6 @@ or-none false y e = (refl, e)
 pub and-none : (x y : Bool) → (x && y) ≡ false → (x ≡ false) ⊎ (y ≡ false)
 and-none true y e = inr e
 and-none false y e = inl refl
-
-pub not-not : (x : Bool) → (x ≡ true → ⊥) → x ≡ false
-not-not true h = absurd (h refl)
-not-not false h = refl
-
-pub is-not : (x : Bool) → x ≡ true → x ≡ false → ⊥
-is-not x p q = true≢false (sym p ∙ q)
 
 pub in? : (m j : ℕ) → In m j ⊎ (has m j ≡ false)
 in? m j = go (has m j)
@@ -60,11 +31,11 @@ in? m j = go (has m j)
     go false = inr refl
 
 pub in-none : (j : ℕ) → In 0 j → ⊥
-in-none j h = is-not (has 0 j) h (has-none j)
+in-none j h = clash h (has-none j)
 
 module _ (a b j : ℕ) where
   pub union-in : In (union a b) j → In a j ⊎ In b j
-  union-in h = or-cases (has a j) (has b j) (sym (has-union a b j) ∙ h)
+  union-in h = or-e (has a j) (has b j) (sym (has-union a b j) ∙ h)
 
   pub in-left : In a j → In (union a b) j
   in-left h = has-union a b j ∙ or-l (has a j) (has b j) h
@@ -79,7 +50,7 @@ module _ (a b j : ℕ) where
   both-r h = and-r (has a j) (has b j) (sym (has-both a b j) ∙ h)
 
   pub in-both : In a j → In b j → In (both a b) j
-  in-both p q = has-both a b j ∙ and-true (has a j) (has b j) p q
+  in-both p q = has-both a b j ∙ and-i (has a j) (has b j) p q
 
   pub minus-in : In (minus a b) j → In a j
   minus-in h = and-l (has a j) (not (has b j)) (sym (has-minus a b j) ∙ h)
@@ -88,17 +59,17 @@ module _ (a b j : ℕ) where
   minus-out h = not-true (has b j) (and-r (has a j) (not (has b j)) (sym (has-minus a b j) ∙ h))
 
   pub in-minus : In a j → has b j ≡ false → In (minus a b) j
-  in-minus p q = has-minus a b j ∙ and-true (has a j) (not (has b j)) p (ap not q)
+  in-minus p q = has-minus a b j ∙ and-i (has a j) (not (has b j)) p (ap not q)
 
 module _ (m j i : ℕ) where
   pub with-in : In (withSite m j) i → In m i ⊎ (i ≡ j)
-  with-in h = ⊎-elim (λ e. inl e) (λ e. inr (eqb-true i j (and-r (isSite i) (eqb i j) e))) (or-cases (has m i) (isSite i && eqb i j) (sym (has-with m j i) ∙ h))
+  with-in h = ⊎-elim (λ e. inl e) (λ e. inr (eqb-true i j (and-r (isSite i) (eqb i j) e))) (or-e (has m i) (isSite i && eqb i j) (sym (has-with m j i) ∙ h))
 
   pub in-with : In m i → In (withSite m j) i
   in-with h = has-with m j i ∙ or-l (has m i) (isSite i && eqb i j) h
 
   pub in-with-new : Site i → i ≡ j → In (withSite m j) i
-  in-with-new s e = has-with m j i ∙ or-r (has m i) (isSite i && eqb i j) (and-true (isSite i) (eqb i j) (site-is i (s .least) (s .most)) (eq-eqb i j e))
+  in-with-new s e = has-with m j i ∙ or-r (has m i) (isSite i && eqb i j) (and-i (isSite i) (eqb i j) (site-is i (s .least) (s .most)) (eq-eqb i j e))
 
   pub without-in : In (without m j) i → In m i
   without-in h = and-l (has m i) (not (eqb i j)) (sym (has-without m j i) ∙ h)
@@ -107,7 +78,7 @@ module _ (m j i : ℕ) where
   without-out h = eqb-false i j (not-true (eqb i j) (and-r (has m i) (not (eqb i j)) (sym (has-without m j i) ∙ h)))
 
   pub in-without : In m i → i ≢ j → In (without m j) i
-  in-without p q = has-without m j i ∙ and-true (has m i) (not (eqb i j)) p (ap not (ne-eqb i j q))
+  in-without p q = has-without m j i ∙ and-i (has m i) (not (eqb i j)) p (ap not (ne-eqb i j q))
 
 module _ (j i : ℕ) where
   pub weight-in : In (weightOf j) i → i ≡ j
@@ -117,10 +88,10 @@ module _ (j i : ℕ) where
   below-in h = ltb-true i j (and-r (isSite i) (ltb i j) (sym (has-below j i) ∙ h))
 
   pub in-below : Site i → i < j → In (belowOf j) i
-  in-below s h = has-below j i ∙ and-true (isSite i) (ltb i j) (site-is i (s .least) (s .most)) (lt-ltb i j h)
+  in-below s h = has-below j i ∙ and-i (isSite i) (ltb i j) (site-is i (s .least) (s .most)) (lt-ltb i j h)
 
 pub in-weight : (j : ℕ) → Site j → In (weightOf j) j
-in-weight j s = has-weight j j ∙ and-true (isSite j) (eqb j j) (site-is j (s .least) (s .most)) (eq-eqb j j refl)
+in-weight j s = has-weight j j ∙ and-i (isSite j) (eqb j j) (site-is j (s .least) (s .most)) (eq-eqb j j refl)
 
 module _ (n j i : ℕ) where
   others-of : In (othersOf n j) i → (isSite i && leb i n && not (eqb i j)) ≡ true
@@ -135,4 +106,4 @@ module _ (n j i : ℕ) where
   pub in-others : Site i → i ≤ n → i ≢ j → In (othersOf n j) i
   in-others s p q =
       has-others n j i
-      ∙ and-true (isSite i && leb i n) (not (eqb i j)) (and-true (isSite i) (leb i n) (site-is i (s .least) (s .most)) (le-leb i n p)) (ap not (ne-eqb i j q))
+      ∙ and-i (isSite i && leb i n) (not (eqb i j)) (and-i (isSite i) (leb i n) (site-is i (s .least) (s .most)) (le-leb i n p)) (ap not (ne-eqb i j q))

@@ -1,14 +1,13 @@
 -- Each accepted step of a site of a sound run, by the definitions of the site crate, is one of the steps that agreement knows.
 -- Assumes nothing.
-use Prim.Native.Nat.{ℕ, zero, suc, _+_, _-_, _*_, _≤_, _<_}
+use Prim.Native.Nat.{ℕ, _+_, _≤_, _<_}
 use mathlib.Core.Bool.{Bool, true, false, cond, not, _&&_, _||_, true≢false, false≢true}
-use mathlib.Core.List.{List}
 use mathlib.Core.Path.{_≡_, refl, sym, ap, subst, _∙_}
 use mathlib.Core.Logic.{_≢_, _⊎_, inl, inr, ⊎-elim}
-use native.Mathlib.Decide.{ℕ-discrete, decLt}
+use native.Mathlib.Decide.{decLt}
 use native.Mathlib.Omega.{arith}
 use lib.Dec.{eqb, leb, ltb}
-use borrow.Author.Tests.{eqb-true, eqb-false, eq-eqb, ne-eqb, leb-true, ltb-true, ltb-false, not-true, not-false}
+use borrow.Author.Tests.{eqb-true, eqb-false, leb-true, ltb-true, ltb-false, not-true, not-false}
 use Rattle.sets.specs.Sets.{has, minus, othersOf, belowOf, weightOf, withSite, subset}
 use Rattle.sets.specs.SetLaws.{Site, has-site, subset-has}
 use Rattle.site.specs.declared.State.{State}
@@ -21,22 +20,25 @@ use Rattle.site.specs.declared.Step.{Step}
 use Rattle.site.specs.declared.Step.the-variants as step
 use Rattle.site.specs.declared.Site.{Site as Record}
 use Rattle.site.specs.declared.Done.{Done}
-use Rattle.site.specs.Site.{isQ, isW, isP, inState, following, knowing, withYes, withNo, withAcked, follows, isOrder, endsOf, toAll, inRun, namesOf, polls, collects, awaitedOf, refused, passed, taken}
+use Rattle.site.specs.Site.{isQ, isW, isP, inState, following, knowing, follows, isOrder, endsOf, toAll, inRun, namesOf, polls, collects, awaitedOf, refused, passed, taken}
+use Rattle.site.specs.SiteFacts.{SoundSite}
+use Rattle.site.specs.SiteSteps.{sound-parts}
 use Rattle.site.specs.First.{begun, beginOf, voted, startOf, noted, voteOf, tallyOf}
 use Rattle.site.specs.Leader.{orderAt, obeyed, obeyOf, ackOf, overIn, takeOverOf, settleOf}
 use Rattle.site.specs.Step.{noticeOf, concludeOf, deliverOf, ruleOf}
 use Rattle.run.specs.declared.Run.{Run}
 use Rattle.run.specs.Run.{siteAt, outstanding}
 use Rattle.run.specs.Event.{isThere}
-use Rattle.promise.specs.SetsMembers.{In, and-true, and-l, and-r, and-none, or-cases, or-none, is-not, not-not, in?, in-none, minus-in, minus-out, in-minus, with-in, in-with, in-with-new, weight-in, in-weight, others-in, others-out, in-others, below-in, in-below}
-use Rattle.promise.specs.RunViews.{Shaped, recordOf, record-at, Runs, Out}
-use Rattle.promise.specs.RunSound.{Fit, Good}
-use Rattle.promise.specs.RunEvents.{Accepted}
-use Rattle.promise.specs.Classes.{Kind, Start, Yes, No, MoveP, MoveW, Ack, Commit, Abort, byState, byKind, IsQ, IsYes, Gives, yes-gives}
+use Rattle.sets.specs.Truths.{and-l, and-r, or-e, clash, fails}
+use Rattle.promise.specs.SetsMembers.{In, and-none, or-none, in?, in-none, minus-in, minus-out, in-minus, in-with, in-with-new, weight-in, in-weight, others-in, others-out, in-others, in-below}
+use Rattle.promise.specs.RunViews.{recordOf, record-at, Runs, Out}
+use Rattle.run.specs.Sound.{Sound}
+use Rattle.promise.specs.Classes.{Kind, Start, Yes, No, MoveP, MoveW, Ack, Commit, Abort, byState, IsQ, IsYes, Gives, yes-gives}
 use Rattle.promise.specs.View.{View, seen as seen-at, told as told-by, Lead, Lowest, Inv}
 use Rattle.promise.specs.Does as does
 use Rattle.promise.specs.Does.{Everyone, Only, Idle, Uses, nothing, notes, message, Does}
 use Rattle.promise.specs.Seen.{number, same-kind, Recorded, viewOf}
+use Rattle.promise.specs.Brings.{Delivers, Notices, Voices, Starts, weigh-least, netWorth, newsWorth, feeOf, kindIn, senderIn, IsMessage, Answer, hearing, hearing-cases, hearing-kept, hearing-new}
 
 -- A test holds or does not.
 by-cond : {D : Type 0} (M : D → Type 0) (b : Bool) (x y : D) → (b ≡ true → M x) → (b ≡ false → M y) → M (cond b x y)
@@ -47,85 +49,6 @@ by-cond M false x y f g = g refl
 pub in-run : (x : Record) (i : ℕ) → inRun x i ≡ true → (1 ≤ i) × (i ≤ x .n)
 unfolding inRun
 in-run x i h = (leb-true 1 i (and-l (leb 1 i) (leb i (x .n)) h), leb-true i (x .n) (and-r (leb 1 i) (leb i (x .n)) h))
-
--- The message that a step delivers.
-abbrev pub Delivers : Step → ℕ → ℕ → Type 0
-Delivers (step.Begin v) K k = ⊥
-Delivers (step.Start from v) K k = (1 ≡ K) × (from ≡ k)
-Delivers (step.Deliver kind from) K k = (kind ≡ K) × (from ≡ k)
-Delivers (step.Notice o) K k = ⊥
-Delivers step.TakeOver K k = ⊥
-Delivers step.Conclude K k = ⊥
-
--- The site that a step says has stopped.
-abbrev pub Notices : Step → ℕ → Type 0
-Notices (step.Begin v) i = ⊥
-Notices (step.Start from v) i = ⊥
-Notices (step.Deliver kind from) i = ⊥
-Notices (step.Notice o) i = o ≡ i
-Notices step.TakeOver i = ⊥
-Notices step.Conclude i = ⊥
-
--- What a message counts for while it is outstanding: itself, and the answer to a Start or a Move.
-abbrev pub weigh : ℕ → ℕ
-weigh K = cond (eqb K 1 || eqb K 4 || eqb K 5) 2 1
-
-pub weigh-least : (K : ℕ) → 1 ≤ weigh K
-weigh-least K = go (eqb K 1 || eqb K 4 || eqb K 5)
-  where
-    go : (b : Bool) → 1 ≤ cond b 2 1
-    go true = omega arith
-    go false = omega arith
-
--- What is gone for good when a step is taken: the message delivered, or the notice given.
-abbrev pub worth : Step → ℕ
-worth (step.Begin v) = 0
-worth (step.Start from v) = weigh 1
-worth (step.Deliver kind from) = weigh kind
-worth (step.Notice o) = 1
-worth step.TakeOver = 0
-worth step.Conclude = 0
-
--- What a step needs of that.
-abbrev pub feeOf : Uses → ℕ
-feeOf nothing = 0
-feeOf notes = 1
-feeOf (message κ k) = weigh (number κ)
-
--- The message in what a step uses up.
-abbrev kindIn : Uses → Kind
-kindIn nothing = Start
-kindIn notes = Start
-kindIn (message κ k) = κ
-
-abbrev senderIn : Uses → ℕ
-senderIn nothing = 0
-senderIn notes = 0
-senderIn (message κ k) = k
-
-abbrev IsMessage : Uses → Type 0
-IsMessage nothing = ⊥
-IsMessage notes = ⊥
-IsMessage (message κ k) = Unit
-
--- A step that may give a vote for yes.
-abbrev pub Voices : Step → Type 0
-Voices (step.Begin vote.Yes) = Unit
-Voices (step.Begin vote.No) = ⊥
-Voices (step.Start from vote.Yes) = Unit
-Voices (step.Start from vote.No) = ⊥
-Voices (step.Deliver kind from) = ⊥
-Voices (step.Notice o) = ⊥
-Voices step.TakeOver = ⊥
-Voices step.Conclude = ⊥
-
-abbrev pub Starts : Step → Type 0
-Starts (step.Begin v) = ⊥
-Starts (step.Start from v) = Unit
-Starts (step.Deliver kind from) = ⊥
-Starts (step.Notice o) = ⊥
-Starts step.TakeOver = ⊥
-Starts step.Conclude = ⊥
 
 -- States by their tests.
 is-q : (s : State) → isQ s ≡ true → s ≡ Q
@@ -159,78 +82,14 @@ is-p P e = refl
 is-p A e = absurd (false≢true e)
 is-p C e = absurd (false≢true e)
 
--- The kinds that a receiver records.
-abbrev Answer : Kind → Type 0
-Answer κ = byKind ⊥ Unit Unit ⊥ ⊥ Unit ⊥ ⊥ κ
-
--- The record x with a Yes, No or Ack of `from` recorded.
-abbrev more : Kind → Kind → ℕ → ℕ → ℕ
-more κ c m from = cond (eqb (number κ) (number c)) (withSite m from) m
-
-abbrev hearing : Kind → Record → ℕ → Record
-hearing κ x from =
-    record {
-      n = x .n;
-      number = x .number;
-      state = x .state;
-      leader = x .leader;
-      known = x .known;
-      yes = more κ Yes (x .yes) from;
-      no = more κ No (x .no) from;
-      acked = more κ Ack (x .acked) from;
-    }
-
-more-cases : (κ c : Kind) (m from i : ℕ) → In (more κ c m from) i → In m i ⊎ ((κ ≡ c) × (i ≡ from))
-more-cases κ c m from i h = go (eqb (number κ) (number c)) refl h
-  where
-    go : (b : Bool) → eqb (number κ) (number c) ≡ b → In (cond b (withSite m from) m) i → In m i ⊎ ((κ ≡ c) × (i ≡ from))
-    go true e h = ⊎-elim (λ y. inl y) (λ y. inr (same-kind κ c (eqb-true _ _ e), y)) (with-in m from i h)
-    go false e h = inl h
-
-more-kept : (κ c : Kind) (m from i : ℕ) → In m i → In (more κ c m from) i
-more-kept κ c m from i h = go (eqb (number κ) (number c))
-  where
-    go : (b : Bool) → In (cond b (withSite m from) m) i
-    go true = in-with m from i h
-    go false = h
-
-hearing-cases : (κ : Kind) (x : Record) (from : ℕ) (c : Kind) (i : ℕ) → Recorded c (hearing κ x from) i → Recorded c x i ⊎ ((κ ≡ c) × (i ≡ from))
-hearing-cases κ x from Yes i h = more-cases κ Yes (x .yes) from i h
-hearing-cases κ x from No i h = more-cases κ No (x .no) from i h
-hearing-cases κ x from Ack i h = more-cases κ Ack (x .acked) from i h
-hearing-cases κ x from Start i h = absurd h
-hearing-cases κ x from MoveP i h = absurd h
-hearing-cases κ x from MoveW i h = absurd h
-hearing-cases κ x from Commit i h = absurd h
-hearing-cases κ x from Abort i h = absurd h
-
-hearing-kept : (κ : Kind) (x : Record) (from : ℕ) (c : Kind) (i : ℕ) → Recorded c x i → Recorded c (hearing κ x from) i
-hearing-kept κ x from Yes i h = more-kept κ Yes (x .yes) from i h
-hearing-kept κ x from No i h = more-kept κ No (x .no) from i h
-hearing-kept κ x from Ack i h = more-kept κ Ack (x .acked) from i h
-hearing-kept κ x from Start i h = h
-hearing-kept κ x from MoveP i h = h
-hearing-kept κ x from MoveW i h = h
-hearing-kept κ x from Commit i h = h
-hearing-kept κ x from Abort i h = h
-
-hearing-new : (κ : Kind) (x : Record) (from : ℕ) → Site from → Answer κ → Recorded κ (hearing κ x from) from
-hearing-new Yes x from at o = in-with-new (x .yes) from from at refl
-hearing-new No x from at o = in-with-new (x .no) from from at refl
-hearing-new Ack x from at o = in-with-new (x .acked) from from at refl
-hearing-new Start x from at o = o
-hearing-new MoveP x from at o = o
-hearing-new MoveW x from at o = o
-hearing-new Commit x from at o = o
-hearing-new Abort x from at o = o
-
+-- What is to be shown of a step that ends with an outcome: a refusal is no conflict, else X.
 abbrev pub Sure : Outcome → Type 0 → Type 0
 Sure Taken X = X
 Sure Passed X = X
 Sure (Refused g) X = g ≢ 6
 
 -- Site j of the run r takes a step.
-module _ (w : ℕ → Type 0) (r : Run) (g : Good r) (u : Inv (viewOf w r)) (j : ℕ) (x : Runs r j) where
+module _ (w : ℕ → Type 0) (r : Run) (g : Sound r) (u : Inv (viewOf w r)) (j : ℕ) (x : Runs r j) where
   abbrev a : View
   a = viewOf w r
 
@@ -243,11 +102,11 @@ module _ (w : ℕ → Type 0) (r : Run) (g : Good r) (u : Inv (viewOf w r)) (j :
     pub kept : (c : Kind) (i : ℕ) → Recorded c s i → Recorded c y i
     pub knows : (i : ℕ) → In (s .known) i → In (y .known) i
 
-  -- What becomes of what the step t brings: a message is used up or recorded, at the least for the fee; a notice is known.
+  -- What becomes of what the step t brings: a message is used up or recorded, and worth the fee; a notice is known.
   pub record Spends (t : Step) (d : Done) (y : Uses) : Type 0 where
     pub used : (c : Kind) (i : ℕ) → Delivers t (number c) i → (y ≡ message c i) ⊎ Recorded c (d .site) i
     pub brought : (c : Kind) (i : ℕ) → y ≡ message c i → Delivers t (number c) i
-    pub fee : feeOf y ≤ worth t
+    pub fee : feeOf y ≤ netWorth t + newsWorth t
     pub learns : (o : ℕ) → Notices t o → In (d .site .known) o
 
   -- How the step t votes: yes where it says so and is taken; a Yes answers a Start, and goes to site 1.
@@ -278,13 +137,13 @@ module _ (w : ℕ → Type 0) (r : Run) (g : Good r) (u : Inv (viewOf w r)) (j :
   ld-is = ap (λ (y : Record). y .leader) here
 
   mine : s .number ≡ j
-  mine = g .number j (x .least) (x .most)
+  mine = g .places j (x .least) (x .most) .number
 
   size : s .n ≡ r .n
-  size = g .sites j (x .least) (x .most)
+  size = g .places j (x .least) (x .most) .sites
 
-  sound : Fit s
-  sound = g .fits j (x .least) (x .most)
+  sound : SoundSite s
+  sound = sound-parts s (g .places j (x .least) (x .most) .sound)
 
   same-heard : (c : Kind) (i : ℕ) → Recorded c s i → a .live c i j
   same-heard c i h = inr (subst (λ (y : Record). Recorded c y i) (sym here) h)
@@ -310,8 +169,11 @@ module _ (w : ℕ → Type 0) (r : Run) (g : Good r) (u : Inv (viewOf w r)) (j :
   unfolding toAll
   in-all i p q ne h = in-minus (othersOf (s .n) (s .number)) (s .known) i (in-others (s .n) (s .number) i (a-site i p q) (rw size q) (rw mine ne)) h
 
+  stopped : (i : ℕ) → In (s .known) i → In (r .stopped) i
+  stopped i = subset-has (s .known) (r .stopped) i (g .places j (x .least) (x .most) .known)
+
   running : (i : ℕ) → Runs r i → has (s .known) i ≡ false
-  running i y = not-not (has (s .known) i) (λ h. is-not (has (r .stopped) i) (g .known j (x .least) (x .most) i h) (y .up))
+  running i y = fails (has (s .known) i) (λ h. clash (stopped i h) (y .up))
 
   everyone : ((i : ℕ) → 1 ≤ i → i < j → In (s .known) i) → Everyone a j (λ i. In (toAll s) i)
   everyone low =
@@ -322,13 +184,13 @@ module _ (w : ℕ → Type 0) (r : Run) (g : Good r) (u : Inv (viewOf w r)) (j :
     where
       go : (i : ℕ) → Site i → (i ≤ r .n) × (i ≢ j) × (has (s .known) i ≡ false) → Dec (j < i) → j < i
       go i p h (yes q) = q
-      go i p h (no q) = absurd (is-not (has (s .known) i) (low i (p .least) (omega (arith, h .1))) (h .2))
+      go i p h (no q) = absurd (clash (low i (p .least) (omega (arith, h .1))) (h .2))
 
   none-below : j ≡ 1 → (i : ℕ) → 1 ≤ i → i < j → In (s .known) i
   none-below e i p q = absurd (omega arith)
 
   leads-itself : j ≡ 1 → a .ld j ≡ j
-  leads-itself e = ld-is ∙ omega (arith, sound .leader, sound .below, mine)
+  leads-itself e = ld-is ∙ omega (arith, sound .led, sound .leader, mine)
 
   -- the index of a step is the record's leader
   same-l : {q : State} {κ : Kind} {y : Uses} {T : ℕ → Type 0} → Does a j T q (a .ld j) κ y → Does a j T q (s .leader) κ y
@@ -478,7 +340,7 @@ module _ (w : ℕ → Type 0) (r : Run) (g : Good r) (u : Inv (viewOf w r)) (j :
         (record {
           used = λ c i h. inr (subst (λ (c : Kind). Recorded c (hearing κ s from) i) (same-kind κ c (h .0)) (subst (λ (i : ℕ). Recorded κ (hearing κ s from) i) (h .1) (hearing-new κ s from at o)));
           brought = λ c i h. absurd (subst IsMessage (sym h) tt);
-          fee = weigh-least (number κ);
+          fee = omega (arith, weigh-least (number κ));
           learns = λ o h. absurd h;
         })
         (λ y. absurd y)
@@ -678,10 +540,10 @@ module _ (w : ℕ → Type 0) (r : Run) (g : Good r) (u : Inv (viewOf w r)) (j :
     follows-lower = omega (arith, ld-is, mine)
 
     after-first : 1 < j
-    after-first = omega (arith, sound .leader, mine)
+    after-first = omega (arith, sound .led, mine)
 
     lone : Lowest a j
-    lone i h y = is-not (has (r .stopped) i) (g .known j (x .least) (x .most) i (low i (y .least) h)) (y .up)
+    lone i h y = clash (stopped i (low i (y .least) h)) (y .up)
 
     -- acknowledgements are cleared: there were none
     cleared : (y : Record) → y .yes ≡ s .yes → y .no ≡ s .no → y .acked ≡ 0 → y .known ≡ s .known → Holds y
@@ -790,13 +652,13 @@ module _ (w : ℕ → Type 0) (r : Run) (g : Good r) (u : Inv (viewOf w r)) (j :
     leading = (
       ld-is ∙ eqb-true (s .leader) (s .number) (and-l (follows s) (isP (s .state) || isW (s .state) && not (eqb (s .number) 1)) e) ∙ mine,
       λ f. ⊎-elim (λ p. rw (st-is ∙ is-p (s .state) p) at (f .1)) (λ p. eqb-false (s .number) 1 (not-true (eqb (s .number) 1) (and-r (isW (s .state)) (not (eqb (s .number) 1)) p)) (mine ∙ f .0))
-          (or-cases (isP (s .state)) (isW (s .state) && not (eqb (s .number) 1)) collecting),
+          (or-e (isP (s .state)) (isW (s .state) && not (eqb (s .number) 1)) collecting),
     )
 
     waits : isP (s .state) ≡ false → s .state ≡ W
     waits f =
-        ⊎-elim (λ p. absurd (is-not (isP (s .state)) p f)) (λ p. is-w (s .state) (and-l (isW (s .state)) (not (eqb (s .number) 1)) p))
-        (or-cases (isP (s .state)) (isW (s .state) && not (eqb (s .number) 1)) collecting)
+        ⊎-elim (λ p. absurd (clash p f)) (λ p. is-w (s .state) (and-l (isW (s .state)) (not (eqb (s .number) 1)) p))
+        (or-e (isP (s .state)) (isW (s .state) && not (eqb (s .number) 1)) collecting)
 
     module _ (none : minus (toAll s) (s .acked) ≡ 0) where
       told : (i : ℕ) → In (toAll s) i → In (s .acked) i

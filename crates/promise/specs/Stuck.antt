@@ -1,14 +1,14 @@
 -- Where only stops could still be accepted, every running site has decided.
 -- Assumes nothing.
-use Prim.Native.Nat.{ℕ, zero, suc, _+_, _-_, _*_, _^_, _≤_, _<_}
-use mathlib.Core.Bool.{Bool, true, false, cond, not, _&&_, _||_, true≢false, false≢true}
+use Prim.Native.Nat.{ℕ, zero, suc, _-_, _≤_, _<_}
+use mathlib.Core.Bool.{Bool, true, false, cond, not, _&&_, _||_}
 use mathlib.Core.List.{List}
 use mathlib.Core.Path.{_≡_, refl, sym, ap, subst, _∙_}
 use mathlib.Core.Logic.{_≢_, _⊎_, inl, inr, ⊎-elim}
 use native.Mathlib.Decide.{ℕ-discrete, decLt}
 use native.Mathlib.Omega.{arith}
 use lib.Dec.{eqb, leb, ltb}
-use borrow.Author.Tests.{eq-eqb, ne-eqb, eqb-true, le-leb, lt-ltb, not-true, not-false}
+use borrow.Author.Tests.{eq-eqb, ne-eqb, eqb-true, le-leb, lt-ltb, not-false}
 use Rattle.sets.specs.Sets.{has, minus, othersOf, belowOf, subset}
 use Rattle.sets.specs.SetLaws.{Site, has-site, subset-has, subset-of}
 use Rattle.sets.specs.SubsetLaws.{minus-lt, others-lt, all-lt, nobody}
@@ -23,10 +23,11 @@ use Rattle.site.specs.declared.Step.{Step}
 use Rattle.site.specs.declared.Step.the-variants as step
 use Rattle.site.specs.declared.Site.{Site as Record}
 use Rattle.site.specs.declared.Done.{Done}
-use Rattle.site.specs.Site.{isQ, isW, isP, inState, follows, endsOf, toAll, inRun, namesOf, polls, collects, awaitedOf, refused, passed, taken}
-use Rattle.site.specs.First.{begun, beginOf, voted, startOf, noted, voteOf, tallyOf}
+use Rattle.site.specs.Site.{isQ, isP, inState, endsOf, toAll, inRun, namesOf, polls, collects, awaitedOf, refused, taken}
+use Rattle.site.specs.SiteSteps.{sound-parts as site-parts}
+use Rattle.site.specs.First.{beginOf, startOf, voteOf, tallyOf}
 use Rattle.site.specs.Leader.{orderAt, obeyed, obeyOf, ackOf, overIn, takeOverOf, settleOf}
-use Rattle.site.specs.Step.{noticeOf, concludeOf, deliverOf, ruleOf, answered, stepOf}
+use Rattle.site.specs.Step.{noticeOf, concludeOf, deliverOf, ruleOf, answered}
 use Rattle.run.specs.declared.Run.{Run}
 use Rattle.run.specs.declared.Event.{Event}
 use Rattle.run.specs.declared.Event.the-variants.{Act, Stop, Cut}
@@ -36,12 +37,12 @@ use Rattle.run.specs.Event.{isThere, freshOf, eventOf}
 use Rattle.run.specs.After.{acceptedBy, after}
 use Rattle.run.specs.SoundLaws.{sound-parts}
 use Rattle.run.specs.GoodRuns as run
-use Rattle.promise.specs.SetsMembers.{In, and-true, and-l, and-r, or-cases, or-none, is-not, not-not, in?, in-none, minus-in, minus-out, in-minus, others-in, others-out, in-others, below-in}
-use Rattle.promise.specs.RunViews.{Shaped, recordOf, record-at, Runs, Out}
-use Rattle.promise.specs.RunSound.{Good, good}
+use Rattle.sets.specs.Truths.{and-i, clash, fails}
+use Rattle.promise.specs.SetsMembers.{In, or-none, in?, in-none, minus-in, minus-out, others-in, others-out, below-in}
+use Rattle.promise.specs.RunViews.{recordOf, record-at, Runs, Out, out-placed}
 use Rattle.promise.specs.RunEvents.{Accepted, allow}
-use Rattle.promise.specs.Classes.{Kind, Start, Yes, No, MoveP, MoveW, Ack, Commit, Abort, IsQ, IsA, IsC, First}
-use Rattle.promise.specs.View.{View, Lowest, Inv}
+use Rattle.promise.specs.Classes.{Kind, Start, Yes, No, MoveP, MoveW, Ack, Commit, Abort, IsA, IsC, First, is-a, is-c}
+use Rattle.promise.specs.View.{Lowest}
 use Rattle.promise.specs.Owed.{Owed, Due, WP}
 use Rattle.promise.specs.Seen.{number, Recorded, viewOf}
 use Rattle.promise.specs.Stepping.{Sure, Stepped, steps}
@@ -49,7 +50,6 @@ use Rattle.promise.specs.Words.{Voted}
 use Rattle.promise.specs.Keeping.{Held, With, by-rule}
 use Rattle.promise.specs.Fresh.{nothing, held-after}
 use Rattle.promise.specs.Owing.{owed-votes, owed-after}
-use Rattle.promise.specs.Potential.{out-placed}
 
 -- ---- steps that are never refused, but for a conflict
 
@@ -90,11 +90,8 @@ tamed X (Refused g) t u = u t
 
 -- ---- a run in which no step is accepted
 
-module _ (w : ℕ → Type 0) (r : Run) (h : Held w r) (o : Owed (viewOf w r)) (ok : soundRun r ≡ true) (sd : Sound r)
+module _ (w : ℕ → Type 0) (r : Run) (h : Held w r) (o : Owed (viewOf w r)) (ok : soundRun r ≡ true) (g : Sound r)
     (idle : (s : ℕ) (t : Step) → Accepted (eventOf r (Act s t) .outcome) → ⊥) where
-  g : Good r
-  g = good r ok
-
   acts : (s : ℕ) (t : Step) → Runs r s → namesOf (siteAt r s) t ≡ true → isThere r s t ≡ true → Accepted (ruleOf (siteAt r s) t .outcome) → ⊥
   unfolding answered
   acts s t x n i a = idle s t (allow r s t ok x n i (subst (λ y. Accepted (y .outcome)) (sym (by-rule r g s t x n)) a))
@@ -107,7 +104,7 @@ module _ (w : ℕ → Type 0) (r : Run) (h : Held w r) (o : Owed (viewOf w r)) (
   module _ (K k i : ℕ) (m : Out (r .net) K k i) where
     sent : SoundMessage r K k i
     unfolding outstanding
-    sent = sd .messages K k i m
+    sent = g .messages K k i m
 
     gets : Runs r i
     unfolding hasStopped
@@ -115,20 +112,20 @@ module _ (w : ℕ → Type 0) (r : Run) (h : Held w r) (o : Owed (viewOf w r)) (
 
     sender : inRun (siteAt r i) k ≡ true
     unfolding inRun
-    sender = and-true (leb 1 k) (leb k (siteAt r i .n)) (le-leb 1 k (out-placed (r .net) (h .shape .net) K k i m .site .least)) (le-leb k (siteAt r i .n) (rw (g .sites i (gets .least) (gets .most)) (sent .from)))
+    sender = and-i (leb 1 k) (leb k (siteAt r i .n)) (le-leb 1 k (out-placed (r .net) (h .shape .net) K k i m .first)) (le-leb k (siteAt r i .n) (rw (g .places i (gets .least) (gets .most) .sites) (sent .from)))
 
     ends : endsOf K k (siteAt r i .number) ≡ true
-    ends = rw (g .number i (gets .least) (gets .most)) (sent .ends)
+    ends = rw (g .places i (gets .least) (gets .most) .number) (sent .ends)
 
     none-other : not (eqb K 1) ≡ true → ⊥
     unfolding outstanding
     none-other ne =
-        tames i (step.Deliver K k) gets (and-true (inRun (siteAt r i) k && not (eqb K 1)) (endsOf K k (siteAt r i .number)) (and-true (inRun (siteAt r i) k) (not (eqb K 1)) sender ne) ends) m
+        tames i (step.Deliver K k) gets (and-i (inRun (siteAt r i) k && not (eqb K 1)) (endsOf K k (siteAt r i .number)) (and-i (inRun (siteAt r i) k) (not (eqb K 1)) sender ne) ends) m
         (tame-deliver (siteAt r i) K k)
 
   none-start : (k i : ℕ) → Out (r .net) 1 k i → ⊥
   unfolding outstanding
-  none-start k i m = tames i (step.Start k vote.Yes) (gets 1 k i m) (and-true (inRun (siteAt r i) k) (endsOf 1 k (siteAt r i .number)) (sender 1 k i m) (ends 1 k i m)) m (tame-start (siteAt r i) k)
+  none-start k i m = tames i (step.Start k vote.Yes) (gets 1 k i m) (and-i (inRun (siteAt r i) k) (endsOf 1 k (siteAt r i .number)) (sender 1 k i m) (ends 1 k i m)) m (tame-start (siteAt r i) k)
 
   quiet : (κ : Kind) (k i : ℕ) → Out (r .net) (number κ) k i → ⊥
   quiet Start k i m = none-start k i m
@@ -151,10 +148,10 @@ module _ (w : ℕ → Type 0) (r : Run) (h : Held w r) (o : Owed (viewOf w r)) (
     z = siteAt r s
 
     mine : z .number ≡ s
-    mine = g .number s (x .least) (x .most)
+    mine = g .places s (x .least) (x .most) .number
 
     size : z .n ≡ r .n
-    size = g .sites s (x .least) (x .most)
+    size = g .places s (x .least) (x .most) .sites
 
     st-is : viewOf w r .st s ≡ z .state
     st-is = ap (λ (a : Record). a .state) (record-at r s (x .least))
@@ -168,13 +165,13 @@ module _ (w : ℕ → Type 0) (r : Run) (h : Held w r) (o : Owed (viewOf w r)) (
     informed i p q ne d =
         ⊎-elim (λ y. y)
         (λ y. absurd (tames s (step.Notice i) x
-        (and-true (leb 1 i && leb i (z .n)) (not (eqb i (z .number))) (and-true (leb 1 i) (leb i (z .n)) (le-leb 1 i p) (le-leb i (z .n) (rw size q))) (ap not (ne-eqb i (z .number) (λ e. ne (e ∙ mine)))))
-        (and-true (has (r .stopped) i) (not (has (z .known) i)) d (ap not y)) (tame-notice z i)))
+        (and-i (leb 1 i && leb i (z .n)) (not (eqb i (z .number))) (and-i (leb 1 i) (leb i (z .n)) (le-leb 1 i p) (le-leb i (z .n) (rw size q))) (ap not (ne-eqb i (z .number) (λ e. ne (e ∙ mine)))))
+        (and-i (has (r .stopped) i) (not (has (z .known) i)) d (ap not y)) (tame-notice z i)))
         (in? (z .known) i)
 
     -- a site of the run that it does not know stopped runs
     others-run : (i : ℕ) → 1 ≤ i → i ≤ r .n → i ≢ s → has (z .known) i ≡ false → Runs r i
-    others-run i p q ne f = record { least = p; most = q; up = not-not (has (r .stopped) i) (λ d. is-not (has (z .known) i) (informed i p q ne d) f) }
+    others-run i p q ne f = record { least = p; most = q; up = fails (has (r .stopped) i) (λ d. clash (informed i p q ne d) f) }
 
     -- the lowest running site
     module _ (low : Lowest (viewOf w r) s) where
@@ -197,7 +194,7 @@ module _ (w : ℕ → Type 0) (r : Run) (h : Held w r) (o : Owed (viewOf w r)) (
           below = subset-of (belowOf (z .number)) (z .known) (unfold belowOf in all-lt (z .number - 1)) (λ i m. lower-known i (has-site (belowOf (z .number)) i m .least) (rw mine at (below-in (z .number) i m)))
 
           go : Dec (z .leader < z .number) → z .leader ≡ z .number
-          go (no n) = omega (arith, g .fits s (x .least) (x .most) .below)
+          go (no n) = omega (arith, site-parts z (g .places s (x .least) (x .most) .sound) .leader)
           go (yes l) = absurd (acts s step.TakeOver x refl refl (unfold takeOverOf in simp (lt-ltb (z .leader) (z .number) l, below) (taken-over (z .state) z)))
 
       itself : viewOf w r .ld s ≡ s
@@ -252,13 +249,13 @@ module _ (w : ℕ → Type 0) (r : Run) (h : Held w r) (o : Owed (viewOf w r)) (
               let p : Site i = has-site (toAll z) i a in
               let ne : i ≢ s = λ e. others-out (z .n) (z .number) i b (e ∙ sym mine) in
               let y : Runs r i = others-run i (p .least) (rw size at (others-in (z .n) (z .number) i b)) ne k in
-              ⊎-elim (held MoveP s i (p .least)) (⊎-elim (held MoveW s i (p .least)) (λ u. is-not (has (z .acked) i) (held Ack i s (x .least) u) (minus-out (toAll z) (z .acked) i m)))
+              ⊎-elim (held MoveP s i (p .least)) (⊎-elim (held MoveW s i (p .least)) (λ u. clash (held Ack i s (x .least) u) (minus-out (toAll z) (z .acked) i m)))
               (due i y ne .moved (leads ∙ mine, late) q)
 
           none : awaitedOf z ≡ 0
           none =
               let e : awaitedOf z ≡ minus (toAll z) (z .acked) = unfold awaitedOf in simp (f, c) in
-              e ∙ nobody (minus (toAll z) (z .acked)) (minus-lt (toAll z) (z .acked) (unfold toAll in minus-lt (othersOf (z .n) (z .number)) (z .known) (others-lt (z .n) (z .number)))) (λ i. not-not (has (minus (toAll z) (z .acked)) i) (acked i))
+              e ∙ nobody (minus (toAll z) (z .acked)) (minus-lt (toAll z) (z .acked) (unfold toAll in minus-lt (othersOf (z .n) (z .number)) (z .known) (others-lt (z .n) (z .number)))) (λ i. fails (has (minus (toAll z) (z .acked)) i) (acked i))
 
       -- so it has decided, and its order to every other running site has come
       decided : (q : State) → z .state ≡ q → (j : ℕ) → Runs r j → IsA (viewOf w r .st j) ⊎ IsC (viewOf w r .st j)
@@ -289,7 +286,7 @@ module _ (w : ℕ → Type 0) (r : Run) (h : Held w r) (o : Owed (viewOf w r)) (
       go : Dec (0 < i) → Dec (r .n < i) → In (r .stopped) i ⊎ (has (r .stopped) i ≡ false) → Runs r i ⊎ (Runs r i → ⊥)
       go (no p) q d = inr (λ x. absurd (omega (arith, x .least)))
       go (yes p) (yes q) d = inr (λ x. absurd (omega (arith, x .most)))
-      go (yes p) (no q) (inl d) = inr (λ x. is-not (has (r .stopped) i) d (x .up))
+      go (yes p) (no q) (inl d) = inr (λ x. clash d (x .up))
       go (yes p) (no q) (inr d) = inl (record { least = omega arith; most = omega arith; up = d })
 
   lowest : (m : ℕ) → ((k : ℕ) × Runs r k × Lowest (viewOf w r) k) ⊎ ((i : ℕ) → i < m → Runs r i → ⊥)
@@ -319,20 +316,6 @@ counts : (o : Outcome) → Accepted o → acceptedBy o ≡ 1
 counts Taken a = refl
 counts Passed a = refl
 counts (Refused n) a = absurd a
-
-is-c : (s : State) → IsC s → s ≡ C
-is-c Q x = absurd x
-is-c W x = absurd x
-is-c P x = absurd x
-is-c A x = absurd x
-is-c C x = refl
-
-is-a : (s : State) → IsA s → s ≡ A
-is-a Q x = absurd x
-is-a W x = absurd x
-is-a P x = absurd x
-is-a A x = refl
-is-a C x = absurd x
 
 pub decided-after : (n : ℕ) → 2 ≤ n → n ≤ 8 → (es : List Event) → ((e : Event) → acceptedBy (eventOf (after n es .run) e .outcome) ≡ 1 → (s : ℕ) × (e ≡ Stop s))
     → (i : ℕ) → Runs (after n es .run) i → (recordOf (after n es .run .sites) i .state ≡ C) ⊎ (recordOf (after n es .run .sites) i .state ≡ A)

@@ -1,1 +1,1 @@
-// Demand 3 about every run from fresh: theorems only, in specs/.
+// Demand 3, about every run from fresh: theorems only, in specs/.
