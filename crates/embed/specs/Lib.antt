@@ -1,3 +1,5 @@
 pub mod Bytes
 pub mod SiteCall
 pub mod RunCalls
+pub mod BytesLaws
+pub mod RecordCalls

@@ -1,4 +1,4 @@
--- `fj_site_step`: what it returns, and what it leavesBoth of both slices.
+-- `fj_site_step`: what it returns, and what it leaves of both slices.
 -- Assumes nothing.
 use Prim.Native.Nat.{ℕ}
 use mathlib.Core.Bool.{Bool, true, false, cond, _&&_}
@@ -39,7 +39,7 @@ siteAnswer site k o m v =
     (cond (leb 1 k && leb k 5) (steppedBy (eventFrom (body k 0 o m v 0)) site) (refusal 13))
     (refusal 1)
 
--- ---- what the call leavesBoth
+-- ---- what the call leaves
 
 -- the first five bytes of the answer: outcome, kind, receivers, messages written, sites awaited
 unfoldable pub answerBytes : Answer → List ℕ

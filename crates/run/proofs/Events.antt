@@ -2,8 +2,8 @@
 -- Assumes nothing.
 use Prim.Native.Nat.{ℕ, _+_, _≤_}
 use mathlib.Core.Bool.{Bool, true, false, _&&_, false≢true}
-use mathlib.Core.List.{List, [], _∷_}
-use mathlib.Core.Logic.{_⊎_, inl, inr}
+use mathlib.Core.List.{[], _∷_}
+use mathlib.Core.Logic.{inl, inr}
 use mathlib.Core.Path.{_≡_, refl, sym, ap, _∙_}
 use native.Mathlib.Omega.{arith}
 use types.Run.{OneOf}
@@ -18,10 +18,11 @@ use Rattle.site.specs.declared.Step.{Step}
 use Rattle.site.specs.declared.Answer.{Answer}
 use Rattle.site.specs.Step.{stepOf}
 use Rattle.run.specs.declared.Run.{Run}
+use Rattle.run.specs.declared.Event.{Event}
 use Rattle.run.specs.declared.Event.the-variants.{Act, Cut}
 use Rattle.run.specs.Run.{siteAt}
 use Rattle.run.specs.Sound.{every, soundPlace, soundEntry, soundRun}
-use Rattle.run.specs.Event.{refusedRun, acted, cutShort, ranStep, ranCut, happened}
+use Rattle.run.specs.Event.{refusedRun, acted, cutShort, ranStep, ranCut, happened, eventOf}
 use Rattle.run.specs.Ground.{groundOf, none-holds}
 
 -- a sound run has at most 8 sites
@@ -35,6 +36,15 @@ few r e =
     second true true c d e h = refl
     second true false c d e h = absurd (false≢true h)
     second false b c d e h = absurd (false≢true h)
+
+-- ground 1, then the event
+pub event-unsound : (r : Run) (e : Event) → soundRun r ≡ false → eventOf r e ≡ refusedRun r 1
+unfolding eventOf
+event-unsound r e h = simp h
+
+pub event-sound : (r : Run) (e f : Event) → soundRun r ≡ true → e ≡ f → eventOf r e ≡ happened r f
+unfolding eventOf
+event-sound r e f h q = simp h (ap (happened r) q)
 
 -- taken or passed over, by the variant's number: what the code knows of an outcome that is not refused
 abbrev pub Accepted : Outcome → Type 0

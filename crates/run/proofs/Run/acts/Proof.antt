@@ -1,12 +1,10 @@
 -- `run::Run::acts` meets its contract.
 -- Assumes nothing.
-use mathlib.Core.Path.{_≡_, sym, ap, _∙_}
+use mathlib.Core.Path.{sym, ap, _∙_}
 use native.Mathlib.Omega.{arith}
 use Rattle.site.specs.declared.Site.{Site}
 use Rattle.site.specs.Step.{stepOf}
-use Rattle.site.specs.declared.Outcome.{Outcome}
 use Rattle.run.specs.declared.Run.{Run}
-use Rattle.run.specs.declared.Ran.{Ran}
 use Rattle.run.specs.Ground.{one-holds, acting}
 use Rattle.run.proofs.Events.{act-refused, act-accepted}
 use borrow.Author.Needs.{needs}

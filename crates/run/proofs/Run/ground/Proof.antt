@@ -1,6 +1,6 @@
 -- `run::Run::ground` meets its contract.
 -- Assumes nothing.
-use mathlib.Core.Path.{_≡_, sym, ap, _∙_}
+use mathlib.Core.Path.{sym, ap, _∙_}
 use Rattle.site.specs.declared.Site.{Site}
 use Rattle.site.specs.Site.{namesOf}
 use borrow.Author.Tests.{le-leb, lt-leb}

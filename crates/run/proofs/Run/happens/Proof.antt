@@ -1,8 +1,8 @@
 -- `run::Run::happens` meets its contract.
 -- Assumes nothing.
-use Rattle.run.specs.Event.{eventOf}
+use mathlib.Core.Path.{sym, _∙_}
 use Rattle.run.specs.RunLists.{fails, holds}
-use Rattle.run.proofs.Events.{few}
+use Rattle.run.proofs.Events.{few, event-unsound, event-sound}
 use borrow.Author.Needs.{needs}
 use Rattle.run.proofs.Run.happens.Statement.{statement}
 use Rattle.run.proofs.Run.happens.Tie as tie
@@ -14,8 +14,7 @@ refused-requires : tie.Need-refused-requires
 refused-requires c κs = search needs
 
 returns : tie.Need-returns
-unfolding eventOf
-returns c = simp (fails (c .before .before .sound .ensures) (c .before .if1 .taken), c .refused .ensures)
+returns c = c .refused .ensures ∙ sym (event-unsound (c .before .before .before .args .self) (c .before .before .before .args .event) (fails (c .before .before .sound .ensures) (c .before .if1 .taken)))
 
 enum-known-event : tie.Need-enum-known-event
 enum-known-event c = search needs
@@ -36,16 +35,13 @@ stops-inside-requires : tie.Need-stops-inside-requires
 stops-inside-requires c κs = few (c .before .before .before .before .before .args .self) (holds (c .before .before .before .before .sound .ensures) (c .before .before .before .if1 .left))
 
 returns-2 : tie.Need-returns-2
-unfolding eventOf
-returns-2 c = simp (holds (c .before .before .before .before .before .sound .ensures) (c .before .before .before .before .if1 .left), c .before .before .event .given .1, c .acts .ensures)
+returns-2 c = c .acts .ensures ∙ sym (event-sound (c .before .before .before .before .before .before .args .self) (c .before .before .before .before .before .before .args .event) _ (holds (c .before .before .before .before .before .sound .ensures) (c .before .before .before .before .if1 .left)) (c .before .before .event .given .1))
 
 returns-3 : tie.Need-returns-3
-unfolding eventOf
-returns-3 c = simp (holds (c .before .before .before .before .before .sound .ensures) (c .before .before .before .before .if1 .left), c .before .before .event2 .given .1, c .stops .ensures)
+returns-3 c = c .stops .ensures ∙ sym (event-sound (c .before .before .before .before .before .before .args .self) (c .before .before .before .before .before .before .args .event) _ (holds (c .before .before .before .before .before .sound .ensures) (c .before .before .before .before .if1 .left)) (c .before .before .event2 .given .1))
 
 returns-4 : tie.Need-returns-4
-unfolding eventOf
-returns-4 c = simp (holds (c .before .before .before .before .before .sound .ensures) (c .before .before .before .before .if1 .left), c .before .before .event3 .given .1, c .stops-inside .ensures)
+returns-4 c = c .stops-inside .ensures ∙ sym (event-sound (c .before .before .before .before .before .before .args .self) (c .before .before .before .before .before .before .args .event) _ (holds (c .before .before .before .before .before .sound .ensures) (c .before .before .before .before .if1 .left)) (c .before .before .event3 .given .1))
 
 pub happens-spec : {M : Type 1} → statement M
 happens-spec =

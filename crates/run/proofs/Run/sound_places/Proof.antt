@@ -2,7 +2,7 @@
 -- Assumes nothing.
 use borrow.Author.Needs.{needs}
 use Prim.Native.Nat.{ℕ, _+_, _-_, _≤_}
-use mathlib.Core.Bool.{Bool, true, _&&_}
+use mathlib.Core.Bool.{Bool, true, false, not, _&&_}
 use mathlib.Core.List.{List}
 use mathlib.Core.Path.{_≡_, refl, sym, ap, _∙_}
 use lib.Dec.{eqb}
@@ -28,6 +28,14 @@ same : (sites : List Site) (n stopped i : ℕ) → at sites n stopped i ≡ righ
 same sites n stopped i =
     let e : i + 1 - 1 ≡ i = omega arith in
     ap (λ (j : ℕ). right (getD sites j noSite) n stopped (i + 1)) e
+
+-- what the test of a place returned, as that place's part of the whole test
+module _ (sites : List Site) (n stopped i : ℕ) (r : Bool) (e : r ≡ right (getD sites i noSite) n stopped (i + 1)) where
+  wrong-at : not r ≡ true → at sites n stopped i ≡ false
+  wrong-at h = same sites n stopped i ∙ fails e h
+
+  right-at : not r ≡ false → at sites n stopped i ≡ true
+  right-at h = same sites n stopped i ∙ holds e h
 
 abbrev Inv-loop : tie.InvT-loop
 Inv-loop n stopped sites i₀ i = (i ≤ n) × (every i (at sites n stopped) ≡ true)
@@ -58,7 +66,7 @@ unfolding soundPlace
 returns c =
     let a = c .before .before .before .before .before .before .args .self in
     sym (every-fails (at (a .sites) (a .n) (a .stopped)) (a .n) (c .before .before .before .before .loop .i) (omega arith)
-    (same (a .sites) (a .n) (a .stopped) (c .before .before .before .before .loop .i) ∙ fails (c .before .sound-place .ensures) (c .if1 .taken)))
+    (wrong-at (a .sites) (a .n) (a .stopped) (c .before .before .before .before .loop .i) (c .before .sound-place .result) (c .before .sound-place .ensures) (c .if1 .taken)))
 
 add-i : tie.Need-add-i Inv-loop μ-loop
 add-i c = omega (arith, c .before .before .before .before .before .before .pre)
@@ -69,7 +77,7 @@ loop-less c = search needs
 loop-again : tie.Need-loop-again Inv-loop μ-loop
 loop-again c =
     let a = c .before .before .before .before .before .before .args .self in
-    (search needs, every-more (at (a .sites) (a .n) (a .stopped)) (c .before .before .before .before .loop .i) (c .before .before .before .before .loop .inv .1) (same (a .sites) (a .n) (a .stopped) (c .before .before .before .before .loop .i) ∙ holds (c .before .sound-place .ensures) (c .if1 .left)))
+    (search needs, every-more (at (a .sites) (a .n) (a .stopped)) (c .before .before .before .before .loop .i) (c .before .before .before .before .loop .inv .1) (right-at (a .sites) (a .n) (a .stopped) (c .before .before .before .before .loop .i) (c .before .sound-place .result) (c .before .sound-place .ensures) (c .if1 .left)))
 
 returns-2 : tie.Need-returns-2 Inv-loop μ-loop
 unfolding soundPlace

@@ -1,6 +1,6 @@
 -- `run::Run::stops` meets its contract.
 -- Assumes nothing.
-use mathlib.Core.Path.{_≡_, sym, _∙_}
+use mathlib.Core.Path.{sym, _∙_}
 use borrow.Author.Tests.{le-leb, lt-leb}
 use Rattle.run.specs.Run.{hasStopped}
 use Rattle.run.specs.Event.{isActor, stopped}

@@ -1,9 +1,7 @@
 -- `run::net::sound_entry` meets its contract.
 -- Assumes nothing.
 use mathlib.Core.Bool.{true≢false}
-use mathlib.Core.Path.{_≡_, sym, ap, _∙_}
-use Prim.Native.Nat.{ℕ}
-use lib.Dec.{lit<}
+use mathlib.Core.Path.{sym, _∙_}
 use Rattle.sets.specs.Sets.{subset}
 use Rattle.sets.specs.SetLaws.{subset-of, has-none}
 use borrow.Author.Needs.{needs}

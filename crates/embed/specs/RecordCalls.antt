@@ -1,0 +1,36 @@
+-- `fj_record_read` and `fj_record_write`: what they return, and what they leave of the slice.
+-- Assumes nothing.
+use Prim.Native.Nat.{ℕ}
+use mathlib.Core.Bool.{cond}
+use mathlib.Core.List.{List, _++_}
+use lib.Dec.{ltb}
+use lib.ListN.{length, drop}
+use Rattle.run.specs.declared.fields.Made.{Made}
+use Rattle.run.specs.declared.fields.Made.the-variants as made
+use Rattle.run.specs.Fields.{body, fieldsFrom, eventFrom}
+use Rattle.journal.specs.declared.Found.{Found}
+use Rattle.journal.specs.declared.Found.the-variants.{Good, Bad}
+use Rattle.journal.specs.Record.{bodyOf, readOf, refusalOf, placedOf}
+use Rattle.embed.specs.Bytes.{Left, leaves}
+
+-- ---- `fj_record_read`
+
+-- K S O M V X in the first six bytes; a refusal leaves them
+abbrev pub readLeaves : Found → List ℕ → Left
+readLeaves (Good r) room = leaves 0 (bodyOf (fieldsFrom (r .event)) ++ drop 6 room)
+readLeaves (Bad g) room = leaves g room
+
+-- 15 comes first; then the reader's grounds for the bytes from a place on, of which there are none past the end
+unfoldable pub readCall : List ℕ → ℕ → List ℕ → Left
+readCall journal at room = cond (ltb (length room) 6) (leaves 15 room) (readLeaves (readOf (drop at journal)) room)
+
+-- ---- `fj_record_write`
+
+-- the writer's 14 and 15, and the nine bytes from a place on
+abbrev pub writeLeaves : Made → List ℕ → ℕ → Left
+writeLeaves (made.Good e) room at = leaves (refusalOf (drop at room) e) (placedOf room at e)
+writeLeaves (made.Bad g) room at = leaves g room
+
+-- 13 and 14 as the fields have it come first
+unfoldable pub writeCall : ℕ → ℕ → ℕ → ℕ → ℕ → ℕ → List ℕ → ℕ → Left
+writeCall k s o m v x room at = writeLeaves (eventFrom (body k s o m v x)) room at

@@ -1,0 +1,56 @@
+// Event records on bytes: reading one, writing one.
+
+ghost use mathlib.Core.Path.{_≡_};
+ghost use mathlib.Core.List.{_++_};
+ghost use Prim.Native.Nat.{_≤_};
+ghost use lib.ListN.{length, drop};
+ghost use Rattle.journal.specs.Record.{bodyOf};
+ghost use Rattle.embed.specs.Bytes.{leaves};
+ghost use Rattle.embed.specs.RecordCalls.{readCall, writeCall};
+
+use journal::Found;
+use run::fields::{event_of, fields_of, Fields, Made};
+
+// K S O M V X, put at the front of a part.
+fn put_fields(room: &mut [u8], f: Fields)
+    requires { ⌜ 6 ≤ length (now room) ⌝ }
+    ensures { λ _. ⌜ now (room .exit) ≡ bodyOf f ++ drop 6 (now (room .entry)) ⌝ }
+{
+    room[0] = f.k;
+    room[1] = f.s;
+    room[2] = f.o;
+    room[3] = f.m;
+    room[4] = f.v;
+    room[5] = f.x;
+}
+
+// The fields of the record at a place of a journal. Returns 0 or the refusal.
+#[no_mangle]
+pub extern "C" fn fj_record_read(journal: &[u8], at: usize, fields: &mut [u8]) -> u8
+    ensures { λ r. ⌜ leaves r (now (fields .exit)) ≡ readCall (now (journal .entry)) at (now (fields .entry)) ⌝ }
+{
+    if fields.len() < 6 {
+        return 15;
+    }
+    let found = journal::read_at(journal, at);
+    match found {
+        Found::Good(record) => {
+            let event = record.event;
+            put_fields(fields, fields_of(event));
+            0
+        }
+        Found::Bad(ground) => ground,
+    }
+}
+
+// The record of these fields, written into the nine bytes from a place on. Returns 0 or the refusal.
+#[no_mangle]
+pub extern "C" fn fj_record_write(k: u8, s: u8, o: u8, m: u8, v: u8, x: u8, room: &mut [u8], at: usize) -> u8
+    ensures { λ r. ⌜ leaves r (now (room .exit)) ≡ writeCall k s o m v x (now (room .entry)) at ⌝ }
+{
+    let made = event_of(Fields { k, s, o, m, v, x });
+    match made {
+        Made::Good(event) => journal::write_at(room, at, event),
+        Made::Bad(ground) => ground,
+    }
+}

@@ -1,0 +1,5 @@
+pub mod Text
+pub mod TextLaws
+pub mod Decimal
+pub mod DecimalLaws
+pub mod Said

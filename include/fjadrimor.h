@@ -1,0 +1,190 @@
+/*
+ * fjadrimor.h - a proved three-phase commit for two to eight sites, on numbers and bytes.
+ *
+ * Link with the archive that `rt staticlib embed` writes (target/staticlib/libembed.a).
+ *
+ * Every call takes any bytes. What it cannot accept it refuses with a number (FJ_.. below), and
+ * then the slice that holds a site, a run, a record or the room for one is left as it was. Bytes
+ * beyond those that a call is said to write are never touched. No call keeps a pointer, allocates
+ * or has state of its own: calls on different memory may be made from any number of threads.
+ *
+ * A slice is two arguments: its address and the number of its elements. The slices of one call
+ * must not overlap, unless both are only read. A null pointer is allowed only where that number
+ * is 0.
+ *
+ * A set of sites is a byte in which site j has weight 2^(j-1): 0x01 is site 1, 0x80 is site 8.
+ */
+#ifndef FJADRIMOR_H
+#define FJADRIMOR_H
+
+#include <stddef.h>
+#include <stdint.h>
+
+#ifdef __cplusplus
+extern "C" {
+#endif
+
+/* ---- numbers ---------------------------------------------------------------------------- */
+
+/* States. */
+enum { FJ_Q = 0, FJ_W = 1, FJ_P = 2, FJ_A = 3, FJ_C = 4 };
+
+/* Kinds of message. */
+enum {
+    FJ_START = 1,
+    FJ_YES = 2,
+    FJ_NO = 3,
+    FJ_MOVE_P = 4,
+    FJ_MOVE_W = 5,
+    FJ_ACK = 6,
+    FJ_COMMIT = 7,
+    FJ_ABORT = 8
+};
+
+/* K, what happens. FJ_DURING + 1 to FJ_DURING + 5 is a stop inside the step 1 to 5. */
+enum {
+    FJ_BEGIN = 1,
+    FJ_DELIVER = 2,
+    FJ_NOTICE = 3,
+    FJ_TAKE_OVER = 4,
+    FJ_CONCLUDE = 5,
+    FJ_STOP = 6,
+    FJ_DURING = 16
+};
+
+/* V, the vote at a begin and at a delivery of Start; 0 in all else. */
+enum { FJ_VOTE_YES = 1, FJ_VOTE_NO = 2 };
+
+/* Outcomes. */
+enum { FJ_TAKEN = 0, FJ_PASSED = 1, FJ_REFUSED = 2 };
+
+/* Grounds for refusal; 0 is none. */
+enum {
+    FJ_NOT_SOUND = 1,      /* the site or the run is not sound or no such bytes; n is not 2 to 8 */
+    FJ_WRONG_NAMES = 2,    /* a site outside 1..n, a notice about itself, an unknown message, wrong ends */
+    FJ_ACTOR_STOPPED = 3,  /* the acting site has stopped */
+    FJ_NOT_THERE = 4,      /* no such message outstanding; noticed site not stopped or already known */
+    FJ_NOT_ALLOWED = 5,    /* a begin, take over or conclude that its rule does not allow */
+    FJ_CONFLICT = 6,       /* the message conflicts with the site's state */
+    FJ_TOO_SHORT = 10,     /* fewer bytes than a record has */
+    FJ_WRONG_LENGTH = 11,  /* the record's length is not 7 */
+    FJ_WRONG_VERSION = 12, /* the record's version is not 1 */
+    FJ_UNKNOWN_K = 13,     /* K is unknown */
+    FJ_WRONG_FIELD = 14,   /* a field outside its range, or not 0 where K does not use it */
+    FJ_NO_ROOM = 15        /* a slice too short (or, for a fresh run, of the wrong length) */
+};
+
+/* Bytes of a site, a run, a record; least bytes of the answers. */
+enum { FJ_SITE = 8, FJ_RUN = 138, FJ_RECORD = 9 };
+enum { FJ_SITE_ANSWER = 5, FJ_RUN_ANSWER = 3, FJ_FIELDS = 6 };
+
+/* ---- a site ----------------------------------------------------------------------------- */
+
+/*
+ * One step of one site, where its bytes stand. Returns 0 or the refusal.
+ *
+ * site: 8 bytes: n, number, state, leader followed, then four sets of other sites: known stopped,
+ *       yes heard, no heard, acknowledged.
+ * k:    1 to 5.
+ * o:    the sender of a delivery, or the site that a notice is about; else 0.
+ * m:    the kind of a delivered message; else 0.
+ * v:    the vote at a begin or a delivery of Start; else 0.
+ *
+ * Written to the first five bytes of answer: the outcome; the kind of the messages written, 0 for
+ * none; the set of their receivers; how many messages; how many sites are still awaited.
+ *
+ * Tested in this order:
+ *   15  answer has fewer than 5 bytes: nothing at all is written
+ *    1  site is not 8 bytes long, or its state is above 4
+ *   13  k is not 1 to 5
+ *   14  v is not 1 or 2 in a begin or a delivery of Start, or a field that the step does not use
+ *       is not 0
+ *    1  the site is not sound
+ *    2  o is not a site of 1 to n, m is no message, or the ends are wrong for it
+ *    5  a begin, take over or conclude that its rule does not allow
+ *    6  a conflict
+ * A refusal but 15 leaves the site and writes outcome 2 and four zeros.
+ */
+uint8_t fj_site_step(uint8_t *site, size_t site_len, uint8_t k, uint8_t o, uint8_t m, uint8_t v,
+                     uint8_t *answer, size_t answer_len);
+
+/* ---- a run ------------------------------------------------------------------------------ */
+
+/*
+ * A run is 138 bytes: n; the set of stopped sites; eight site records of 8 bytes, site i at
+ * 2 + 8 * (i - 1); 72 bytes of network, at 66 + 8 * (kind - 1) + sender - 1 the set of receivers
+ * for which that message is outstanding. The last eight bytes have no kind and stay 0. Places
+ * above n are handed back as they were.
+ */
+
+/*
+ * The fresh run of n sites: all in q, following site 1, nothing heard, nothing outstanding.
+ * Returns 0 or the refusal:
+ *   15  run is not 138 bytes long: nothing is written
+ *    1  n is not 2 to 8: the same run is written with n 0 in it and in its site records
+ */
+uint8_t fj_run_fresh(uint8_t n, uint8_t *run, size_t run_len);
+
+/*
+ * One event of a run, where its bytes stand. Returns 0 or the refusal.
+ *
+ * k:  1 to 6, or 17 to 21.
+ * s:  the acting site.
+ * o, m, v: as in a site step.
+ * x:  for k 17 to 21 the set of receivers whose messages still leave, any set; else 0.
+ *
+ * Written to the first three bytes of answer: the outcome (an accepted stop is taken); how many
+ * messages were written; how many sites the acting site still awaits, 0 after a stop.
+ *
+ * Tested in this order:
+ *   15  answer has fewer than 3 bytes: nothing at all is written
+ *    1  run is not 138 bytes long, or a state is above 4 at any of the eight places
+ *   13  k is unknown
+ *   14  v is not 1 or 2 in a begin or a delivery of Start, or a field that k does not use is not 0
+ *    1  the run is not sound
+ *    2  s or o is not a site of 1 to n, a notice about itself, m is no message, wrong ends
+ *    3  the acting site has stopped
+ *    4  no such message is outstanding; the noticed site has not stopped, or is known to have
+ *    5  a begin, take over or conclude that its rule does not allow
+ *    6  a conflict
+ * A refusal but 15 leaves the run and writes outcome 2 and two zeros.
+ */
+uint8_t fj_run_event(uint8_t *run, size_t run_len, uint8_t k, uint8_t s, uint8_t o, uint8_t m,
+                     uint8_t v, uint8_t x, uint8_t *answer, size_t answer_len);
+
+/* ---- event records ---------------------------------------------------------------------- */
+
+/*
+ * A record is 9 bytes: the length 0 7, the version 1, then K S O M V X. In a record S and O are
+ * sites 1 to 8 and M is a message 1 to 8, each only where K uses it.
+ */
+
+/*
+ * Reads the record that starts at the byte `at` of a journal. Returns 0 and puts K S O M V X into
+ * the first six bytes of fields, or returns the refusal and leaves fields:
+ *   15  fields has fewer than 6 bytes
+ *   10  fewer than 2 bytes are left, also where `at` lies past the end
+ *   11  the length is not 7
+ *   10  fewer than 9 bytes are left
+ *   12  the version is not 1
+ *   13  K is unknown
+ *   14  a field is outside its range
+ */
+uint8_t fj_record_read(const uint8_t *journal, size_t journal_len, size_t at,
+                       uint8_t *fields, size_t fields_len);
+
+/*
+ * Writes a record into the nine bytes from `at` on. Returns 0, or the refusal with the room as it
+ * was:
+ *   13  k is unknown
+ *   14  a field is outside its range
+ *   15  fewer than 9 bytes are left from `at` on
+ */
+uint8_t fj_record_write(uint8_t k, uint8_t s, uint8_t o, uint8_t m, uint8_t v, uint8_t x,
+                        uint8_t *room, size_t room_len, size_t at);
+
+#ifdef __cplusplus
+}
+#endif
+
+#endif
