@@ -6,10 +6,15 @@ ghost use Prim.Native.Nat.{_+_, _≤_};
 ghost use lib.ListN.{length, drop};
 ghost use Rattle.embed.specs.Bytes.{stateByte, stateFrom, siteBytes, siteFrom, outcomeByte, leavesBoth};
 ghost use Rattle.embed.specs.SiteCall.{refusal, isRecord, siteAnswer, answerBytes, siteCall};
-
-use run::fields::{event_of, Fields, Made};
 use run::Event;
-use site::{Answer, Counts, Outcome, Site, State};
+use run::fields::Fields;
+use run::fields::Made;
+use run::fields::event_of;
+use site::Answer;
+use site::Counts;
+use site::Outcome;
+use site::Site;
+use site::State;
 
 pub fn state_byte(state: State) -> u8
     ensures { λ r. ⌜ r ≡ stateByte state ⌝ }

@@ -100,7 +100,7 @@ digits-slice-write-text-2 : (t : ℕ) → digits-lts.Need-slice-write-text-2 (
   digits-below t,
   digits.Post,
 ) (digits-at t) digits.Post
-digits-slice-write-text-2 t c = 
+digits-slice-write-text-2 t c =
     let room : c .before .before .before .before .before .before .before .args .at + length (decimal (c .before .before .before .before .before .before .before .args .n / 10)) ≤ length (c .before .before .before .before .before .before .before .args .text .now) = omega (arith, width-more (c .before .before .before .before .before .before .before .args .n) (c .before .before .before .before .before .if1 .left), c .before .before .before .before .before .before .before .pre .1) in
     let long = put-length (c .before .before .before .digits .ensures) in
     let here : c .before .before .before .digits .result < length (c .before .before .before .digits .last .0) = omega (arith, width-more (c .before .before .before .before .before .before .before .args .n) (c .before .before .before .before .before .if1 .left), c .before .before .before .before .before .before .before .pre .1, c .before .before .before .digits .ensures .to, long) in
@@ -113,7 +113,7 @@ digits-add-result-2 : (t : ℕ) → digits-lts.Need-add-result-2 (
   digits-below t,
   digits.Post,
 ) (digits-at t) digits.Post
-digits-add-result-2 t c = 
+digits-add-result-2 t c =
     let room : c .before .before .before .before .before .before .before .args .at + length (decimal (c .before .before .before .before .before .before .before .args .n / 10)) ≤ length (c .before .before .before .before .before .before .before .args .text .now) = omega (arith, width-more (c .before .before .before .before .before .before .before .args .n) (c .before .before .before .before .before .if1 .left), c .before .before .before .before .before .before .before .pre .1) in
     let long = put-length (c .before .before .before .digits .ensures) in
     let here : c .before .before .before .digits .result < length (c .before .before .before .digits .last .0) = omega (arith, width-more (c .before .before .before .before .before .before .before .args .n) (c .before .before .before .before .before .if1 .left), c .before .before .before .before .before .before .before .pre .1, c .before .before .before .digits .ensures .to, long) in
@@ -126,7 +126,7 @@ digits-same-length-2 : (t : ℕ) → digits-lts.Need-same-length-2 (
   digits-below t,
   digits.Post,
 ) (digits-at t) digits.Post
-digits-same-length-2 t c = 
+digits-same-length-2 t c =
     let room : c .before .before .before .before .before .before .before .args .at + length (decimal (c .before .before .before .before .before .before .before .args .n / 10)) ≤ length (c .before .before .before .before .before .before .before .args .text .now) = omega (arith, width-more (c .before .before .before .before .before .before .before .args .n) (c .before .before .before .before .before .if1 .left), c .before .before .before .before .before .before .before .pre .1) in
     let long = put-length (c .before .before .before .digits .ensures) in
     let here : c .before .before .before .digits .result < length (c .before .before .before .digits .last .0) = omega (arith, width-more (c .before .before .before .before .before .before .before .args .n) (c .before .before .before .before .before .if1 .left), c .before .before .before .before .before .before .before .pre .1, c .before .before .before .digits .ensures .to, long) in
@@ -139,7 +139,7 @@ digits-returns-2 : (t : ℕ) → digits-lts.Need-returns-2 (
   digits-below t,
   digits.Post,
 ) (digits-at t) digits.Post
-digits-returns-2 t c = 
+digits-returns-2 t c =
     let room : c .before .before .before .before .before .before .before .args .at + length (decimal (c .before .before .before .before .before .before .before .args .n / 10)) ≤ length (c .before .before .before .before .before .before .before .args .text .now) = omega (arith, width-more (c .before .before .before .before .before .before .before .args .n) (c .before .before .before .before .before .if1 .left), c .before .before .before .before .before .before .before .pre .1) in
     let long = put-length (c .before .before .before .digits .ensures) in
     let here : c .before .before .before .digits .result < length (c .before .before .before .digits .last .0) = omega (arith, width-more (c .before .before .before .before .before .before .before .args .n) (c .before .before .before .before .before .if1 .left), c .before .before .before .before .before .before .before .pre .1, c .before .before .before .digits .ensures .to, long) in

@@ -54,15 +54,15 @@ same-length c = ap length (c .before .loop .inv .1) ∙ length-paste (c .before 
 
 -- src/lib.rt:20:1
 returns : tie.Need-returns Inv-loop μ-loop
-returns c = 
+returns c =
     let all : c .before .loop .i ≡ length (c .before .before .args .part .now) = omega arith in
     record {
       room = c .before .before .pre;
       to = omega arith;
       now =
-      c .before .loop .inv .1 ∙ ap (paste (c .before .before .args .text .now) (c .before .before .args .at) (c .before .before .args .part .now)) all
-      ∙ ap (λ (l : List ℕ). take (c .before .before .args .at) (c .before .before .args .text .now) ++ l ++ drop (c .before .before .args .at + length (c .before .before .args .part .now)) (c .before .before .args .text .now)) (take-length (c .before .before .args .part .now))
-      ∙ append-assoc (take (c .before .before .args .at) (c .before .before .args .text .now)) (c .before .before .args .part .now) (drop (c .before .before .args .at + length (c .before .before .args .part .now)) (c .before .before .args .text .now));
+          c .before .loop .inv .1 ∙ ap (paste (c .before .before .args .text .now) (c .before .before .args .at) (c .before .before .args .part .now)) all
+          ∙ ap (λ (l : List ℕ). take (c .before .before .args .at) (c .before .before .args .text .now) ++ l ++ drop (c .before .before .args .at + length (c .before .before .args .part .now)) (c .before .before .args .text .now)) (take-length (c .before .before .args .part .now))
+          ∙ append-assoc (take (c .before .before .args .at) (c .before .before .args .text .now)) (c .before .before .args .part .now) (drop (c .before .before .args .at + length (c .before .before .args .part .now)) (c .before .before .args .text .now));
     }
 
 pub copy-spec : {M : Type 1} → statement M

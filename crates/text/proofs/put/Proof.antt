@@ -20,14 +20,14 @@ has-room-requires c κs = search needs
 -- src/lib.rt:37:9
 returns : tie.Need-returns
 unfolding spliced reached
-returns c = 
-    let no : fits (length (c .before .before .before .before .args .text .now)) (c .before .before .before .before .args .at) (length (c .before .before .before .before .args .part .now)) ≡ false =  (sym (c .before .has-room .ensures) ∙ not-true (c .before .has-room .result) (c .if1 .taken)) in
+returns c =
+    let no : fits (length (c .before .before .before .before .args .text .now)) (c .before .before .before .before .args .at) (length (c .before .before .before .before .args .part .now)) ≡ false = (sym (c .before .has-room .ensures) ∙ not-true (c .before .has-room .result) (c .if1 .taken)) in
     (simp no, simp no)
 
 -- src/lib.rt:39:5
 copy-requires : tie.Need-copy-requires
 unfolding fits
-copy-requires c κs = leb-true (c .before .before .before .before .before .args .at + length (c .before .before .before .before .before .args .part .now)) (length (c .before .before .before .before .before .args .text .now)) ( (sym (c .before .before .has-room .ensures) ∙ not-false (c .before .before .has-room .result) (c .before .if1 .left)))
+copy-requires c κs = leb-true (c .before .before .before .before .before .args .at + length (c .before .before .before .before .before .args .part .now)) (length (c .before .before .before .before .before .args .text .now)) ((sym (c .before .before .has-room .ensures) ∙ not-false (c .before .before .has-room .result) (c .before .if1 .left)))
 
 -- src/lib.rt:33:1
 same-length : tie.Need-same-length
@@ -36,8 +36,8 @@ same-length c = search needs
 -- src/lib.rt:33:1
 returns-2 : tie.Need-returns-2
 unfolding spliced reached
-returns-2 c = 
-    let yes : fits (length (c .before .before .before .before .before .before .before .before .args .text .now)) (c .before .before .before .before .before .before .before .before .args .at) (length (c .before .before .before .before .before .before .before .before .args .part .now)) ≡ true =  (sym (c .before .before .before .before .before .has-room .ensures) ∙ not-false (c .before .before .before .before .before .has-room .result) (c .before .before .before .before .if1 .left)) in
+returns-2 c =
+    let yes : fits (length (c .before .before .before .before .before .before .before .before .args .text .now)) (c .before .before .before .before .before .before .before .before .args .at) (length (c .before .before .before .before .before .before .before .before .args .part .now)) ≡ true = (sym (c .before .before .before .before .before .has-room .ensures) ∙ not-false (c .before .before .before .before .before .has-room .result) (c .before .before .before .before .if1 .left)) in
     (simp yes (c .before .before .copy .ensures .to), simp yes (c .before .before .copy .ensures .now))
 
 pub put-spec : {M : Type 1} → statement M

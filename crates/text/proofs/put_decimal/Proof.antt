@@ -26,7 +26,7 @@ has-room-requires c κs = search needs
 -- src/lib.rt:78:9
 returns : tie.Need-returns
 unfolding spliced reached
-returns c = 
+returns c =
     let no : fits (length (c .before .before .before .before .args .text .now)) (c .before .before .before .before .args .at) (length (decimal (c .before .before .before .before .args .n))) ≡ false = ap (fits (length (c .before .before .before .before .args .text .now)) (c .before .before .before .before .args .at)) (sym (c .before .before .width .ensures)) ∙ (sym (c .before .has-room .ensures) ∙ not-true (c .before .has-room .result) (c .if1 .taken)) in
     (simp no, simp no)
 
@@ -42,7 +42,7 @@ same-length c = search needs
 -- src/lib.rt:74:1
 returns-2 : tie.Need-returns-2
 unfolding spliced reached
-returns-2 c = 
+returns-2 c =
     let yes : fits (length (c .before .before .before .before .before .before .before .before .args .text .now)) (c .before .before .before .before .before .before .before .before .args .at) (length (decimal (c .before .before .before .before .before .before .before .before .args .n))) ≡ true = ap (fits (length (c .before .before .before .before .before .before .before .before .args .text .now)) (c .before .before .before .before .before .before .before .before .args .at)) (sym (c .before .before .before .before .before .before .width .ensures)) ∙ (sym (c .before .before .before .before .before .has-room .ensures) ∙ not-false (c .before .before .before .before .before .has-room .result) (c .before .before .before .before .if1 .left)) in
     (simp yes (c .before .before .digits .ensures .to), simp yes (c .before .before .digits .ensures .now))
 
