@@ -1,7 +1,7 @@
 -- Laws of text in lent bytes: parts put one after another are their text put at once.
 -- Assumes nothing.
 use Prim.Native.Nat.{ℕ, _+_, _-_, _≤_, _<_}
-use mathlib.Core.Bool.{Bool, true, false, cond}
+use mathlib.Core.Bool.{true}
 use mathlib.Core.List.{List, [], _∷_, _++_, append-assoc}
 use mathlib.Core.Path.{_≡_, refl, sym, ap, subst, _∙_}
 use native.Mathlib.Omega.{arith}
@@ -11,7 +11,7 @@ use native.Mathlib.Decide.{decLt}
 use native.Mathlib.Numerals.{add-one}
 use lib.ListN.{length, take, drop, set, length-append, length-drop}
 use lib.Seq.{set-split, drop-drop, take-at, drop-at, length-take-le}
-use Rattle.text.specs.Text.{fits, over, spliced, reached, Put}
+use Rattle.text.specs.Text.{fits, spliced, reached, Put}
 
 -- a part that fits is put
 pub put-fits : (text : List ℕ) (at : ℕ) (part : List ℕ) {last : List ℕ} {r : ℕ} → at + length part ≤ length text

@@ -7,23 +7,25 @@ use std::process::ExitCode;
 
 #[cfg(feature = "run")]
 const RUNS: compare::run::Runs =
-    compare::run::Runs { fresh: proved::run_fresh, event: proved::run_event };
+    compare::run::Runs { fresh: fjadrimor::calls::run_fresh, event: fjadrimor::calls::run_event };
 
 #[cfg(feature = "journal")]
 const JOURNALING: compare::journal::Journaling = compare::journal::Journaling {
-    read: proved::record_read,
-    write: proved::record_write,
-    rehearse: proved::rehearse,
+    read: fjadrimor::calls::record_read,
+    write: fjadrimor::calls::record_write,
+    rehearse: fjadrimor::calls::rehearse,
 };
 
 #[cfg(feature = "sheet")]
-const JUDGING: compare::sheet::Judging =
-    compare::sheet::Judging { judge: proved::sheet_judge, report: proved::sheet_report };
+const JUDGING: compare::sheet::Judging = compare::sheet::Judging {
+    judge: fjadrimor::calls::sheet_judge,
+    report: fjadrimor::calls::sheet_report,
+};
 
 /// Every comparison of the two; one that differs ends the bench.
 fn comparisons() -> Vec<Tally> {
     vec![
-        compare::site::compare(proved::site_step, plain::site_step, 100_000),
+        compare::site::compare(fjadrimor::calls::site_step, plain::site_step, 100_000),
         #[cfg(feature = "run")]
         compare::run::compare(RUNS, bench::run::PLAIN, 100_000),
         #[cfg(feature = "journal")]
@@ -42,7 +44,7 @@ fn main() -> ExitCode {
         return ExitCode::FAILURE;
     }
     print_head();
-    print(site::races(proved::site_step));
+    print(site::races(fjadrimor::calls::site_step));
     #[cfg(feature = "run")]
     print(bench::run::races(RUNS));
     #[cfg(feature = "journal")]

@@ -20,13 +20,13 @@ fn count(arguments: &[String], usual: u64) -> Option<u64> {
 }
 
 fn site(count: u64) -> Tally {
-    compare::site::compare(proved::site_step, second::bytes::site_step, count)
+    compare::site::compare(fjadrimor::calls::site_step, second::bytes::site_step, count)
 }
 
 #[cfg(feature = "run")]
 fn run(count: u64) -> Tally {
     use compare::run::{compare, Runs};
-    let library = Runs { fresh: proved::run_fresh, event: proved::run_event };
+    let library = Runs { fresh: fjadrimor::calls::run_fresh, event: fjadrimor::calls::run_event };
     let second = Runs { fresh: second::run_bytes::run_fresh, event: second::run_bytes::run_event };
     compare(library, second, count)
 }
@@ -35,9 +35,9 @@ fn run(count: u64) -> Tally {
 fn journal(count: u64) -> Tally {
     use compare::journal::{compare, Journaling};
     let library = Journaling {
-        read: proved::record_read,
-        write: proved::record_write,
-        rehearse: proved::rehearse,
+        read: fjadrimor::calls::record_read,
+        write: fjadrimor::calls::record_write,
+        rehearse: fjadrimor::calls::rehearse,
     };
     let second = Journaling {
         read: second::journal::record_read,
@@ -50,7 +50,8 @@ fn journal(count: u64) -> Tally {
 #[cfg(feature = "sheet")]
 fn sheet(count: u64) -> Tally {
     use compare::sheet::{compare, Judging};
-    let library = Judging { judge: proved::sheet_judge, report: proved::sheet_report };
+    let library =
+        Judging { judge: fjadrimor::calls::sheet_judge, report: fjadrimor::calls::sheet_report };
     let second =
         Judging { judge: second::report::sheet_judge, report: second::report::sheet_report };
     compare(library, second, count)

@@ -1,15 +1,16 @@
-use mathlib.Core.Path.{_≡_, refl, sym, ap, _∙_}
+-- `text::digits` meets its contract. The measure is the number: its tens are put first, then its ones.
+-- Assumes nothing.
+use mathlib.Core.Path.{sym, ap, _∙_}
 use native.Mathlib.Omega.{arith}
-use lib.ListN.{length, set, length-set}
-use mathlib.Core.List.{List, [], _∷_, _++_}
-use Prim.Native.Nat.{_+_, _/_, _%_, _≤_}
-use Rattle.text.specs.Decimal.{decimal}
-use Rattle.text.specs.DecimalLaws.{decimal-one, decimal-more, width-more, width-decimal}
-use Rattle.text.specs.TextLaws.{put-length, put-then, put-byte, put-as}
+use lib.ListN.{length, length-set}
+use mathlib.Core.List.{[], _∷_, _++_}
+use Prim.Native.Nat.{_+_, _/_, _≤_, ℕ, _<_}
 use borrow.Author.Needs.{needs}
-use Prim.Native.Nat.{ℕ, _<_}
 use borrow.Fn.Kinds.{In}
 use borrow.Fn.PlainCycle.{Measures, is, falls, and}
+use Rattle.text.specs.Decimal.{decimal}
+use Rattle.text.specs.DecimalLaws.{decimal-one, decimal-more, width-more}
+use Rattle.text.specs.TextLaws.{put-length, put-then, put-byte, put-as}
 use Rattle.text.proofs.digits.Reads as digits
 use Rattle.text.proofs.digits.Kinds as digits-kinds
 use Rattle.text.proofs.+digits.Lts-digits as digits-lts
@@ -26,7 +27,6 @@ digits-at t = and 1 digits-kinds.ps (is 1 digits-kinds.ps μ-digits t) digits.Pr
 abbrev digits-below : ℕ → In 1 digits-kinds.ps
 digits-below t = and 1 digits-kinds.ps (falls 1 digits-kinds.ps _<_ μ-digits t) digits.Pre
 
--- src/lib.rt:65:20
 digits-digit-requires : (t : ℕ) → digits-lts.Need-digit-requires (
   digit-reads.Asked,
   digit-reads.Learnt,
@@ -35,7 +35,6 @@ digits-digit-requires : (t : ℕ) → digits-lts.Need-digit-requires (
 ) (digits-at t) digits.Post
 digits-digit-requires t c κs = search needs
 
--- src/lib.rt:65:9
 digits-slice-write-text : (t : ℕ) → digits-lts.Need-slice-write-text (
   digit-reads.Asked,
   digit-reads.Learnt,
@@ -44,7 +43,6 @@ digits-slice-write-text : (t : ℕ) → digits-lts.Need-slice-write-text (
 ) (digits-at t) digits.Post
 digits-slice-write-text t c = omega (arith, ap length (decimal-one (c .before .before .before .args .n) (c .before .if1 .taken)), c .before .before .before .pre .1)
 
--- src/lib.rt:66:16
 digits-add-result : (t : ℕ) → digits-lts.Need-add-result (
   digit-reads.Asked,
   digit-reads.Learnt,
@@ -53,7 +51,6 @@ digits-add-result : (t : ℕ) → digits-lts.Need-add-result (
 ) (digits-at t) digits.Post
 digits-add-result t c = omega (arith, ap length (decimal-one (c .before .before .before .args .n) (c .before .if1 .taken)), c .before .before .before .pre .1)
 
--- src/lib.rt:66:9
 digits-same-length : (t : ℕ) → digits-lts.Need-same-length (
   digit-reads.Asked,
   digit-reads.Learnt,
@@ -62,7 +59,6 @@ digits-same-length : (t : ℕ) → digits-lts.Need-same-length (
 ) (digits-at t) digits.Post
 digits-same-length t c = simp length-set
 
--- src/lib.rt:66:9
 digits-returns : (t : ℕ) → digits-lts.Need-returns (
   digit-reads.Asked,
   digit-reads.Learnt,
@@ -75,7 +71,6 @@ digits-returns t c =
     (omega (arith, ap length (decimal-one (c .before .before .before .args .n) (c .before .if1 .taken)), c .before .before .before .pre .1)))
     (ap (λ (x : ℕ). x ∷ []) (c .digit .ensures) ∙ sym (decimal-one (c .before .before .before .args .n) (c .before .if1 .taken)))
 
--- src/lib.rt:68:9
 digits-digits-requires : (t : ℕ) → digits-lts.Need-digits-requires (
   digit-reads.Asked,
   digit-reads.Learnt,
@@ -84,7 +79,6 @@ digits-digits-requires : (t : ℕ) → digits-lts.Need-digits-requires (
 ) (digits-at t) digits.Post
 digits-digits-requires t c κs = (omega arith, omega (arith, width-more (c .before .before .before .args .n) (c .before .if1 .left), c .before .before .before .pre .1))
 
--- src/lib.rt:69:16
 digits-digit-requires-2 : (t : ℕ) → digits-lts.Need-digit-requires-2 (
   digit-reads.Asked,
   digit-reads.Learnt,
@@ -93,7 +87,6 @@ digits-digit-requires-2 : (t : ℕ) → digits-lts.Need-digit-requires-2 (
 ) (digits-at t) digits.Post
 digits-digit-requires-2 t c κs = omega arith
 
--- src/lib.rt:69:5
 digits-slice-write-text-2 : (t : ℕ) → digits-lts.Need-slice-write-text-2 (
   digit-reads.Asked,
   digit-reads.Learnt,
@@ -106,7 +99,6 @@ digits-slice-write-text-2 t c =
     let here : c .before .before .before .digits .result < length (c .before .before .before .digits .last .0) = omega (arith, width-more (c .before .before .before .before .before .before .before .args .n) (c .before .before .before .before .before .if1 .left), c .before .before .before .before .before .before .before .pre .1, c .before .before .before .digits .ensures .to, long) in
     here
 
--- src/lib.rt:70:5
 digits-add-result-2 : (t : ℕ) → digits-lts.Need-add-result-2 (
   digit-reads.Asked,
   digit-reads.Learnt,
@@ -119,7 +111,6 @@ digits-add-result-2 t c =
     let here : c .before .before .before .digits .result < length (c .before .before .before .digits .last .0) = omega (arith, width-more (c .before .before .before .before .before .before .before .args .n) (c .before .before .before .before .before .if1 .left), c .before .before .before .before .before .before .before .pre .1, c .before .before .before .digits .ensures .to, long) in
     omega arith
 
--- src/lib.rt:60:1
 digits-same-length-2 : (t : ℕ) → digits-lts.Need-same-length-2 (
   digit-reads.Asked,
   digit-reads.Learnt,
@@ -132,7 +123,6 @@ digits-same-length-2 t c =
     let here : c .before .before .before .digits .result < length (c .before .before .before .digits .last .0) = omega (arith, width-more (c .before .before .before .before .before .before .before .args .n) (c .before .before .before .before .before .if1 .left), c .before .before .before .before .before .before .before .pre .1, c .before .before .before .digits .ensures .to, long) in
     simp length-set long
 
--- src/lib.rt:60:1
 digits-returns-2 : (t : ℕ) → digits-lts.Need-returns-2 (
   digit-reads.Asked,
   digit-reads.Learnt,

@@ -1,13 +1,12 @@
-use Rattle.text.specs.DecimalLaws.{decimal-one, decimal-more, width-more, width-decimal}
-use mathlib.Core.Path.{_≡_, sym, ap, _∙_}
+-- `text::width` meets its contract. The measure is the number.
+-- Assumes nothing.
+use mathlib.Core.Path.{sym, ap}
 use native.Mathlib.Omega.{arith}
 use lib.ListN.{length}
-use mathlib.Core.List.{[], _∷_}
-use Prim.Native.Nat.{_+_, _/_, _%_, _^_}
-use Rattle.text.specs.Decimal.{decimal}
-use Prim.Native.Nat.{ℕ, _<_}
+use Prim.Native.Nat.{_+_, _/_, ℕ, _<_}
 use borrow.Fn.Kinds.{In}
 use borrow.Fn.PlainCycle.{Measures, is, falls, and}
+use Rattle.text.specs.DecimalLaws.{decimal-one, width-more, width-decimal}
 use Rattle.text.proofs.width.Reads as width
 use Rattle.text.proofs.width.Kinds as width-kinds
 use Rattle.text.proofs.+width.Lts-width as width-lts
@@ -23,22 +22,18 @@ width-at t = and 0 width-kinds.ps (is 0 width-kinds.ps μ-width t) width.Pre
 abbrev width-below : ℕ → In 0 width-kinds.ps
 width-below t = and 0 width-kinds.ps (falls 0 width-kinds.ps _<_ μ-width t) width.Pre
 
--- src/lib.rt:47:9
 width-returns :
     (t : ℕ) → width-lts.Need-returns (width-below t, width.Post) (width-at t) width.Post
 width-returns t c = sym (ap length (decimal-one (c .before .args .n) (c .if1 .taken)))
 
--- src/lib.rt:49:5
 width-width-requires :
     (t : ℕ) → width-lts.Need-width-requires (width-below t, width.Post) (width-at t) width.Post
 width-width-requires t c κs = omega arith
 
--- src/lib.rt:49:5
 width-add-result :
     (t : ℕ) → width-lts.Need-add-result (width-below t, width.Post) (width-at t) width.Post
 width-add-result t c = omega (arith, c .width .ensures, width-decimal 19 (c .before .before .args .n / 10) (omega arith))
 
--- src/lib.rt:43:1
 width-returns-2 :
     (t : ℕ) → width-lts.Need-returns-2 (width-below t, width.Post) (width-at t) width.Post
 width-returns-2 t c = omega (arith, c .width .ensures, width-more (c .before .before .args .n) (c .before .if1 .left))

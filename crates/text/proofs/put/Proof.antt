@@ -1,39 +1,31 @@
-use mathlib.Core.Path.{_≡_, refl, sym, ap, _∙_}
-use mathlib.Core.Bool.{Bool, true, false}
-use native.Mathlib.Omega.{arith}
-use Rattle.text.specs.Text.{fits, spliced, reached}
+-- `text::put` meets its contract.
+-- Assumes nothing.
+use mathlib.Core.Path.{_≡_, sym, _∙_}
+use mathlib.Core.Bool.{true, false}
 use borrow.Author.Tests.{not-true, not-false, leb-true}
 use lib.ListN.{length}
-use Prim.Native.Nat.{ℕ, _+_}
+use Prim.Native.Nat.{_+_}
 use borrow.Author.Needs.{needs}
+use Rattle.text.specs.Text.{fits, spliced, reached}
 use Rattle.text.proofs.put.Statement.{statement}
 use Rattle.text.proofs.put.Tie as tie
-use Rattle.text.proofs.put.Reads as reads
-use Rattle.text.proofs.put.Lts as lts
-use Rattle.text.proofs.copy.Reads as copy-reads
-use Rattle.text.proofs.has_room.Reads as has-room-reads
 
--- src/lib.rt:36:9
 has-room-requires : tie.Need-has-room-requires
 has-room-requires c κs = search needs
 
--- src/lib.rt:37:9
 returns : tie.Need-returns
 unfolding spliced reached
 returns c =
     let no : fits (length (c .before .before .before .before .args .text .now)) (c .before .before .before .before .args .at) (length (c .before .before .before .before .args .part .now)) ≡ false = (sym (c .before .has-room .ensures) ∙ not-true (c .before .has-room .result) (c .if1 .taken)) in
     (simp no, simp no)
 
--- src/lib.rt:39:5
 copy-requires : tie.Need-copy-requires
 unfolding fits
 copy-requires c κs = leb-true (c .before .before .before .before .before .args .at + length (c .before .before .before .before .before .args .part .now)) (length (c .before .before .before .before .before .args .text .now)) ((sym (c .before .before .has-room .ensures) ∙ not-false (c .before .before .has-room .result) (c .before .if1 .left)))
 
--- src/lib.rt:33:1
 same-length : tie.Need-same-length
 same-length c = search needs
 
--- src/lib.rt:33:1
 returns-2 : tie.Need-returns-2
 unfolding spliced reached
 returns-2 c =

@@ -6,5 +6,7 @@ fn main() {
         println!("cargo:rerun-if-changed={folder}/libembed.a");
         println!("cargo:rustc-link-search=native={folder}");
         println!("cargo:rustc-link-lib=static=embed");
+    } else {
+        println!("cargo:warning=FJ_LIB_DIR names no folder with libembed.a: nothing can be linked");
     }
 }

@@ -1,5 +1,5 @@
-//! The proved library's C interface as safe Rust functions. A lent slice is passed as its address
-//! and its length.
+//! The calls of the C interface as safe functions on slices, and the one place that declares them.
+//! A lent slice is passed as its address and its length. The types of this crate stand on these.
 
 mod c {
     extern "C" {

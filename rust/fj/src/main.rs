@@ -1,0 +1,115 @@
+//! `fj`, the operators' companion: journals in readable notation, their rehearsal and their chart.
+//! Whatever decides is the proved library; here its answers become text and pictures.
+
+mod chart;
+mod grounds;
+mod notation;
+mod rehearsal;
+#[cfg(feature = "sheet")]
+mod sheet;
+#[cfg(test)]
+mod tests;
+mod words;
+
+use std::io::{Read, Write};
+use std::process::ExitCode;
+
+const HELP: &str = include_str!("help.txt");
+const BAD_INPUT: u8 = 1;
+const BAD_USAGE: u8 = 2;
+
+/// A journal as bytes, with the title that its text may have.
+struct Journal {
+    bytes: Vec<u8>,
+    title: Option<String>,
+}
+
+/// The journal in a file; `-` is standard input. Text is assembled, unless it is to be bytes.
+fn journal(file: &str, as_bytes: bool) -> Result<Journal, String> {
+    let mut bytes = Vec::new();
+    let read = match file {
+        "-" => std::io::stdin().read_to_end(&mut bytes).map(|_| ()),
+        _ => std::fs::read(file).map(|found| bytes = found),
+    };
+    let file = if file == "-" { "standard input" } else { file };
+    read.map_err(|why| format!("{file}: {why}"))?;
+    if as_bytes || !notation::is_text(&bytes) {
+        return Ok(Journal { bytes, title: None });
+    }
+    let text = String::from_utf8_lossy(&bytes);
+    let title = notation::title(&text).map(str::to_string);
+    let bytes = notation::assemble(&text).map_err(|why| format!("{file}, {why}"))?;
+    Ok(Journal { bytes, title })
+}
+
+/// The command's output, or why there is none.
+fn output(command: &str, plain: bool, journal: &Journal) -> Result<Vec<u8>, String> {
+    let bytes = &journal.bytes;
+    let text = match command {
+        "assemble" => return Ok(bytes.clone()),
+        "show" => notation::show(bytes),
+        "rehearse" if plain => rehearsal::transcript(bytes)?,
+        "rehearse" => rehearsal::beside(&rehearsal::transcript(bytes)?, bytes),
+        _ => chart::chart(bytes, journal.title.as_deref())?,
+    };
+    Ok(text.into_bytes())
+}
+
+fn bad_usage(why: &str) -> u8 {
+    eprintln!("fj: {why}; fj --help tells how to use it");
+    BAD_USAGE
+}
+
+fn bad_input(why: &str) -> u8 {
+    eprintln!("fj: {why}");
+    BAD_INPUT
+}
+
+/// A command over a journal; the exit status.
+fn run(command: &str, rest: &[String]) -> u8 {
+    let (options, files): (Vec<&str>, Vec<&str>) =
+        rest.iter().map(String::as_str).partition(|word| word.starts_with("--"));
+    if options.contains(&"--help") {
+        return written(HELP.as_bytes());
+    }
+    let known =
+        |option: &&str| *option == "--bytes" || *option == "--plain" && command == "rehearse";
+    if let Some(option) = options.iter().find(|option| !known(option)) {
+        return bad_usage(&format!("{command} has no option {option}"));
+    }
+    let [file] = files[..] else {
+        return bad_usage(&format!("{command} takes one file"));
+    };
+    let done = journal(file, options.contains(&"--bytes"))
+        .and_then(|journal| output(command, options.contains(&"--plain"), &journal));
+    match done {
+        Ok(bytes) => written(&bytes),
+        Err(why) => bad_input(&why),
+    }
+}
+
+fn written(bytes: &[u8]) -> u8 {
+    let mut out = std::io::stdout();
+    match out.write_all(bytes).and_then(|()| out.flush()) {
+        Ok(()) => 0,
+        // Whoever reads the output has seen enough.
+        Err(why) if why.kind() == std::io::ErrorKind::BrokenPipe => 0,
+        Err(why) => bad_input(&format!("standard output: {why}")),
+    }
+}
+
+fn main() -> ExitCode {
+    let arguments: Vec<String> =
+        std::env::args_os().skip(1).map(|word| word.to_string_lossy().into_owned()).collect();
+    let status = match arguments.split_first() {
+        None => bad_usage("no command is given"),
+        Some((word, rest)) => match word.as_str() {
+            "rehearse" | "assemble" | "show" | "chart" => run(word, rest),
+            #[cfg(feature = "sheet")]
+            "judge" | "sheet" => sheet::command(&arguments) as u8,
+            "--help" | "-h" | "help" => written(HELP.as_bytes()),
+            _ => bad_usage(&format!("there is no command {word}")),
+        },
+    };
+    ExitCode::from(status)
+}

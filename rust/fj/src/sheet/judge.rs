@@ -1,0 +1,123 @@
+//! `fj judge`: the report with the names beside the numbers.
+
+use super::library::{Decision, Finding, Judgement};
+use super::model::{Local, Mark, Sheet};
+
+/// The width at which concurrency sets are broken.
+const WIDTH: usize = 60;
+
+/// The report of an accepted sheet.
+pub fn text(sheet: &Sheet, judgement: &Judgement) -> String {
+    let mut text = String::new();
+    if !sheet.title.is_empty() {
+        text += &format!("{}\n", sheet.title);
+    }
+    text += &format!("sheet {} sites {} states\n", sheet.sites.len(), judgement.states);
+    for site in 1..=sheet.sites.len() {
+        text += &table(sheet, judgement, site as u8);
+    }
+    text + &verdict(sheet, judgement) + &blocked(sheet, judgement) + &mixed(sheet, judgement)
+}
+
+/// The lines of one site's states.
+fn table(sheet: &Sheet, judgement: &Judgement, site: u8) -> String {
+    let own: Vec<Local> = sheet.locals().into_iter().filter(|local| local.0 == site).collect();
+    let names: Vec<String> = own.iter().map(|&local| sheet.called(local)).collect();
+    let width = names.iter().map(|name| name.chars().count()).max().unwrap_or(0).max(5);
+    let mut text = format!("\n{}\n", sheet.site_called(site.into()));
+    text += &format!(
+        "  {:width$}  mark     reached  committable  decision  found together with\n",
+        "state"
+    );
+    for (&local, name) in own.iter().zip(&names) {
+        let found = judgement.of(local);
+        let yes_no = |holds| if holds { "yes" } else { "no" };
+        let head = format!(
+            "  {name:width$}  {:7}  {:7}  {:11}  {:8}  ",
+            sheet.state(local).mark.word(),
+            yes_no(found.reached),
+            yes_no(found.committable),
+            found.decision.word()
+        );
+        text += &(head + &set(sheet, found).join(&format!("\n{:1$}", "", width + 45)) + "\n");
+    }
+    text
+}
+
+/// A concurrency set in lines.
+fn set(sheet: &Sheet, found: &Finding) -> Vec<String> {
+    let mut lines: Vec<String> = Vec::new();
+    for &local in &found.set {
+        let name = sheet.called(local);
+        match lines.last_mut() {
+            Some(line) if line.len() + 2 + name.len() <= WIDTH => *line += &format!(", {name}"),
+            Some(line) => {
+                line.push(',');
+                lines.push(name);
+            }
+            None => lines.push(name),
+        }
+    }
+    if lines.is_empty() {
+        vec!["-".to_string()]
+    } else {
+        lines
+    }
+}
+
+fn verdict(sheet: &Sheet, judgement: &Judgement) -> String {
+    let verdict = match judgement.witness {
+        None => "nonblocking".to_string(),
+        Some((site, state, condition)) => {
+            format!("blocking at {} condition {condition}", sheet.called((site, state)))
+        }
+    };
+    format!("\nverdict {verdict}\ntolerance {}\n", judgement.tolerance)
+}
+
+/// Why each blocked state is blocked.
+fn blocked(sheet: &Sheet, judgement: &Judgement) -> String {
+    let mut text = String::new();
+    for local in sheet.locals() {
+        let found = judgement.of(local);
+        if found.decision == Decision::Blocked {
+            text += &format!("\n{} is blocked:\n{}", sheet.called(local), reasons(sheet, found));
+        }
+    }
+    text
+}
+
+/// The conditions that a blocked state breaks, as its set shows them.
+fn reasons(sheet: &Sheet, found: &Finding) -> String {
+    let marked = |mark| {
+        let of_mark = |local: &&Local| sheet.state(**local).mark == mark;
+        let names: Vec<String> =
+            found.set.iter().filter(of_mark).map(|&local| sheet.called(local)).collect();
+        names.join(", ")
+    };
+    let (aborts, commits) = (marked(Mark::Abort), marked(Mark::Commit));
+    let mut text = String::new();
+    if !aborts.is_empty() {
+        text += &format!("  condition 1: another site may have aborted ({aborts}) and another may have committed ({commits})\n");
+    }
+    if !found.committable {
+        text += &format!("  condition 2: another site may have committed ({commits}), and not every site is known to have voted yes\n");
+    }
+    text
+}
+
+/// A warning for each commit state that is found together with an abort state: Skeen calls such a
+/// global state inconsistent, and his conditions are about protocols that have none.
+fn mixed(sheet: &Sheet, judgement: &Judgement) -> String {
+    let marked = |local: &Local, mark| sheet.state(*local).mark == mark;
+    let mut text = String::new();
+    for local in sheet.locals().into_iter().filter(|local| marked(local, Mark::Commit)) {
+        let set = judgement.of(local).set.iter().filter(|other| marked(other, Mark::Abort));
+        let names: Vec<String> = set.map(|&other| sheet.called(other)).collect();
+        if !names.is_empty() {
+            let (commit, aborts) = (sheet.called(local), names.join(", "));
+            text += &format!("\ninconsistent: {commit} is found together with {aborts}\n");
+        }
+    }
+    text
+}

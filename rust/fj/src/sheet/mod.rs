@@ -1,0 +1,147 @@
+//! `fj judge` and `fj sheet`: protocol sheets in a readable notation, their reports with names, and
+//! drawings of them. The proved library decides; this module reads, writes and draws.
+
+#[cfg(test)]
+mod bridge_tests;
+mod draw;
+mod judge;
+mod library;
+mod model;
+mod notation;
+mod refusal;
+mod show;
+#[cfg(test)]
+mod tests;
+
+use model::Sheet;
+use std::io::{ErrorKind, Read, Write};
+
+const USAGE: &str = "usage: fj judge FILE                     the report, with names
+       fj judge --plain FILE             the report as the sheet program prints it
+       fj sheet assemble FILE > SHEET    the bytes of a notation
+       fj sheet show FILE                the notation of a sheet
+       fj sheet draw FILE > SHEET.svg    each site's state diagram
+  FILE holds a sheet in the notation or in bytes; - is standard input.";
+
+/// A sheet as it was given: its bytes, and the sheet with names where the bytes have the form of
+/// one.
+struct Input {
+    bytes: Vec<u8>,
+    sheet: Option<Sheet>,
+}
+
+/// What is printed, and the reason for an exit status of 1.
+struct Answer {
+    output: Vec<u8>,
+    trouble: Option<String>,
+}
+
+/// Runs a command whose first word is `judge` or `sheet`; the exit status is 0, 1 where there was a
+/// refusal or an error, or 2 for a command that is none.
+pub fn command(args: &[String]) -> i32 {
+    let words: Vec<&str> = args.iter().map(String::as_str).collect();
+    let (job, file): (fn(&Input) -> Answer, &str) = match words[..] {
+        [_, "--help"] => {
+            println!("{USAGE}");
+            return 0;
+        }
+        ["judge", file] if !file.starts_with("--") => (judged, file),
+        ["judge", "--plain", file] => (plain, file),
+        ["sheet", "assemble", file] => (assembled, file),
+        ["sheet", "show", file] => (shown, file),
+        ["sheet", "draw", file] => (drawn, file),
+        _ => {
+            eprintln!("{USAGE}");
+            return 2;
+        }
+    };
+    let mut answer = input(file).map(|input| job(&input)).unwrap_or_else(Answer::trouble);
+    if let Err(error) = std::io::stdout().write_all(&answer.output) {
+        // Whoever reads the output may have seen enough.
+        if error.kind() != ErrorKind::BrokenPipe {
+            answer.trouble = Some(format!("standard output: {error}"));
+        }
+    }
+    answer.trouble.iter().for_each(|trouble| eprintln!("fj: {trouble}"));
+    answer.trouble.is_some().into()
+}
+
+/// Reads a file.
+fn input(file: &str) -> Result<Input, String> {
+    let mut data = Vec::new();
+    let read = match file {
+        "-" => std::io::stdin().read_to_end(&mut data),
+        _ => std::fs::File::open(file).and_then(|mut open| open.read_to_end(&mut data)),
+    };
+    read.map_err(|error| format!("{file}: {error}"))?;
+    taken(data).map_err(|error| format!("{file}:{}: {}", error.line, error.reason))
+}
+
+/// Takes a text without control characters as the notation, and anything else as bytes: a record
+/// has such a character where its version stands.
+fn taken(data: Vec<u8>) -> Result<Input, notation::Error> {
+    let written = |c: char| !c.is_control() || c.is_ascii_whitespace();
+    match std::str::from_utf8(&data) {
+        Ok(text) if !text.is_empty() && text.chars().all(written) => {
+            let sheet = notation::read(text)?;
+            Ok(Input { bytes: sheet.bytes(), sheet: Some(sheet) })
+        }
+        _ => Ok(Input { sheet: Sheet::from_bytes(&data), bytes: data }),
+    }
+}
+
+impl Answer {
+    fn output(output: impl Into<Vec<u8>>) -> Answer {
+        Answer { output: output.into(), trouble: None }
+    }
+
+    fn trouble(trouble: String) -> Answer {
+        Answer { output: Vec::new(), trouble: Some(trouble) }
+    }
+}
+
+impl Input {
+    /// The sheet, where it has the form that grounds 21 to 29 ask for; else the refusal in words.
+    fn formed(&self) -> Result<(&Sheet, Result<library::Judgement, u8>), Answer> {
+        let judged = library::judge(&self.bytes);
+        match (&self.sheet, judged) {
+            (Some(sheet), Ok(judgement)) => Ok((sheet, Ok(judgement))),
+            (Some(sheet), Err(ground @ 30..=31)) => Ok((sheet, Err(ground))),
+            (sheet, judged) => {
+                let ground = judged.err().unwrap_or_default();
+                Err(Answer::trouble(refusal::text(ground, sheet.as_ref())))
+            }
+        }
+    }
+}
+
+fn judged(input: &Input) -> Answer {
+    match input.formed() {
+        Ok((sheet, Ok(judgement))) => Answer::output(judge::text(sheet, &judgement)),
+        Ok((sheet, Err(ground))) => Answer::trouble(refusal::text(ground, Some(sheet))),
+        Err(refused) => refused,
+    }
+}
+
+fn plain(input: &Input) -> Answer {
+    let refused = library::judge(&input.bytes).err();
+    Answer {
+        output: library::report(&input.bytes),
+        trouble: refused.map(|ground| refusal::text(ground, input.sheet.as_ref())),
+    }
+}
+
+fn assembled(input: &Input) -> Answer {
+    let bytes = |_| Answer::output(input.bytes.clone());
+    input.formed().map_or_else(|refused| refused, bytes)
+}
+
+fn shown(input: &Input) -> Answer {
+    let text = |(sheet, _): (&Sheet, _)| Answer::output(show::notation(sheet));
+    input.formed().map_or_else(|refused| refused, text)
+}
+
+fn drawn(input: &Input) -> Answer {
+    let svg = |(sheet, judged): (&Sheet, Result<_, u8>)| Answer::output(draw::svg(sheet, &judged));
+    input.formed().map_or_else(|refused| refused, svg)
+}

@@ -1,0 +1,227 @@
+//! The notation both ways, refusals in words, reports with names, and drawings.
+
+use super::model::Sheet;
+use super::{draw, judge, library, notation, refusal, show, taken, Input};
+use compare::inputs::{figures, sheets, Random};
+
+/// A protocol with two sites; `more` follows it.
+fn small(more: &str) -> String {
+    let text = "site 1 asks\n state q working\n state c commit\n state a abort\n\
+                site 2\n state q working\n state c commit\n\
+                messages go done\nfirst go\n";
+    text.to_string() + more
+}
+
+fn read(more: &str) -> Sheet {
+    notation::read(&small(more)).expect("the notation is good")
+}
+
+/// The line and the reason of an error.
+fn error(more: &str) -> (usize, String) {
+    let error = notation::read(&small(more)).expect_err("the notation is wrong");
+    (error.line, error.reason)
+}
+
+/// The refusal of a notation in words.
+fn refused(more: &str) -> String {
+    let sheet = read(more);
+    let ground = library::judge(&sheet.bytes()).expect_err("the sheet is refused");
+    refusal::text(ground, Some(&sheet))
+}
+
+fn gallery(name: &str) -> String {
+    let folder = concat!(env!("CARGO_MANIFEST_DIR"), "/../../gallery/");
+    std::fs::read_to_string(format!("{folder}{name}.sheet")).expect("the gallery has this sheet")
+}
+
+#[test]
+fn a_notation_is_its_bytes() {
+    let sheet = read("1: q -> c reads go writes done votes yes # and ends\n2: q -> c reads done");
+    let body = [
+        &[1, 2, 3, 2, 0, 2, 1, 0, 2][..],
+        &[0, 0, 0, 1, 2],
+        &[1, 0, 1, 1, 0, 0, 0, 1, 0, 0, 0, 2],
+        &[2, 0, 1, 0, 0, 0, 0, 2, 0, 0, 0, 0],
+    ];
+    assert_eq!(sheet.bytes(), [&[0, 38][..], &body.concat()].concat());
+}
+
+#[test]
+fn an_error_names_its_line_and_the_reason() {
+    let reasons = [
+        ("1: q -> c reads gone", "no line of messages has introduced gone"),
+        ("1: q -> x reads go", "site 1 has no state x"),
+        ("3: q -> c reads go", "there is no site 3"),
+        ("1: q to c", "a transition is written SITE: FROM -> TO reads .. writes .."),
+        ("1: q -> c reads", "here a list of messages is missing"),
+        ("1: q -> c reads go go", "go stands twice in one list"),
+        ("1: q -> c reads go reads go", "a transition has one list after reads"),
+        ("1: q -> c reads go votes no", "a vote is written: votes yes"),
+        ("site 4", "sites come in order: the next one is site 3, not 4"),
+        ("state q working", "site 2 has a state q already"),
+        ("state x waiting", "a state is working, abort or commit, not waiting"),
+        ("state x", "a state has a name and a mark: state NAME MARK"),
+        ("messages go", "there is a message go already"),
+        ("messages reads", "reads divides a transition and cannot name a message"),
+        ("first done", "a sheet has one line of first messages"),
+    ];
+    for (line, reason) in reasons {
+        assert_eq!(error(line), (10, reason.to_string()), "{line}");
+    }
+    assert_eq!(error("\n\n1 q").0, 12);
+    let many: String = (0..31).map(|m| format!("messages m{m}\n")).collect();
+    assert_eq!(error(&many), (40, "a sheet has at most 32 messages, and m30 is one more".into()));
+}
+
+#[test]
+fn a_refusal_shows_its_place() {
+    let refusals = [
+        ("1: q -> c writes done", "refused 26: a transition reads nothing (line 10, 1: q -> c)"),
+        (
+            "1: q -> c reads go\n2: q -> c reads go",
+            "refused 27: a message is read by two sites (go: line 10, 1: q -> c and line 11, 2: q -> c)",
+        ),
+        (
+            "1: c -> a reads go",
+            "refused 28: a transition leads from an abort or commit state to a state of another mark (line 10, 1: c -> a)",
+        ),
+        (
+            "state w working\n2: q -> w reads done\n2: w -> q reads done",
+            "refused 29: a site can come back to a state that it has left (site 2: q -> w -> q)",
+        ),
+        (
+            "messages more\n1: q -> c reads go writes more\n1: c -> c reads go",
+            "refused 29: a site can come back to a state that it has left (site 1: c -> c)",
+        ),
+        (
+            "site 3",
+            "refused 23: the number of sites is not 2 to 4, or a site's number of states is not 1 to 8 (3 sites with 3, 2, 0 states)",
+        ),
+    ];
+    for (more, text) in refusals {
+        assert_eq!(refused(more), text);
+    }
+}
+
+#[test]
+fn bytes_and_text_are_told_apart() {
+    let bytes = read("1: q -> c reads go").bytes();
+    let input = |data: &[u8]| taken(data.to_vec()).map(|input: Input| input.sheet.is_some());
+    assert_eq!(input(&bytes), Ok(true));
+    assert_eq!(input(&bytes[1..]), Ok(false));
+    assert_eq!(input(b""), Ok(false));
+    assert_eq!(input(small("").as_bytes()), Ok(true));
+    assert!(input(b"no sheet at all").is_err());
+}
+
+/// Every generated sheet that the library takes, or refuses only with 30 or 31, is the same bytes
+/// again after it was shown; and some are drawn.
+#[test]
+fn shown_and_assembled_again() {
+    let mut random = Random::new(3);
+    let mut seen = 0;
+    for _ in 0..3000 {
+        let bytes = sheets::any_case(&mut random).bytes;
+        let judged = library::judge(&bytes);
+        if let Err(21..=29) = judged {
+            continue;
+        }
+        let sheet = Sheet::from_bytes(&bytes).expect("an accepted sheet has the form of one");
+        let again = notation::read(&show::notation(&sheet)).expect("what is shown can be read");
+        assert_eq!(again.bytes(), bytes);
+        if seen % 8 == 0 {
+            assert!(draw::svg(&sheet, &judged).ends_with("</svg>\n"));
+        }
+        seen += 1;
+    }
+    assert!(seen > 1000, "{seen}");
+}
+
+#[test]
+fn a_clash_shows_the_message_and_the_transition() {
+    let text = small("").replace("first go", "first go done") + "1: q -> c reads go writes done";
+    let sheet = notation::read(&text).expect("the notation is good");
+    assert_eq!(library::judge(&sheet.bytes()).err(), Some(31));
+    let refusal = "refused 31: a message can be written while it is still outstanding (done: line 10, 1: q -> c)";
+    assert_eq!(refusal::text(31, Some(&sheet)), refusal);
+}
+
+/// The gallery's central and decentralised protocols agree with the sheets that the comparison with
+/// the second program makes of the same figures (whose states have other numbers): in length, number
+/// of global states, tolerance, and the site and condition of the verdict.
+#[test]
+fn the_figures_of_the_paper() {
+    let figures = [
+        ("central-two-phase-2", figures::central(&[false])),
+        ("central-two-phase-4", figures::central(&[false; 3])),
+        ("central-three-phase-3", figures::central(&[true; 2])),
+        ("mixed-central-4-one", figures::central(&[false, true, false])),
+        ("decentral-two-phase-4", figures::decentral(4, false)),
+        ("decentral-three-phase-3", figures::decentral(3, true)),
+    ];
+    for (name, figure) in figures {
+        let sheet = notation::read(&gallery(name)).expect("the gallery is good");
+        let summary = |bytes: &[u8]| {
+            let judged = library::judge(bytes).expect("a figure is accepted");
+            (bytes.len(), judged.states, judged.tolerance, judged.witness.map(|at| (at.0, at.2)))
+        };
+        assert_eq!(summary(&sheet.bytes()), summary(&figure.bytes()), "{name}");
+    }
+}
+
+/// Document 01's worked report, byte for byte.
+#[test]
+fn the_worked_example() {
+    let two = notation::read(&gallery("central-two-phase-2")).expect("the gallery is good");
+    assert_eq!(two.bytes()[..2], [0, 113]);
+    let text = "sheet 2 sites 9 states
+1.0 w y 2.0 n abort
+1.1 w y 2.0,2.1,2.2 n abort
+1.2 a y 2.1,2.2 n abort
+1.3 c y 2.1,2.3 y commit
+2.0 w y 1.0,1.1 n abort
+2.1 w y 1.1,1.2,1.3 n blocked
+2.2 a y 1.1,1.2 n abort
+2.3 c y 1.3 y commit
+verdict blocking at 2.1 condition 1
+tolerance 0
+";
+    assert_eq!(library::report(&two.bytes()), text.as_bytes());
+}
+
+#[test]
+fn a_report_with_names() {
+    let sheet = notation::read(&gallery("central-two-phase-2")).expect("the gallery is good");
+    let text = judge::text(&sheet, &library::judge(&sheet.bytes()).expect("it is accepted"));
+    let lines = [
+        "sheet 2 sites 9 states",
+        "site 2 slave",
+        "  2.1 w  working  yes      no           blocked   1.1 w, 1.2 a, 1.3 c",
+        "verdict blocking at 2.1 w condition 1",
+        "tolerance 0",
+        "2.1 w is blocked:",
+    ];
+    for line in lines {
+        assert!(text.lines().any(|found| found == line), "{line}\n{text}");
+    }
+}
+
+#[test]
+fn an_inconsistent_protocol_is_warned_of() {
+    let sheet = read("state a abort\n1: q -> c reads go\n2: q -> a reads done");
+    let sheet = Sheet { first: 3, ..sheet };
+    let text = judge::text(&sheet, &library::judge(&sheet.bytes()).expect("it is accepted"));
+    assert!(text.ends_with("\ninconsistent: 1.1 c is found together with 2.2 a\n"), "{text}");
+}
+
+#[test]
+fn a_drawing_marks_what_is_blocked() {
+    for (name, blocked) in [("central-two-phase-3", 2), ("central-three-phase-3", 0)] {
+        let sheet = notation::read(&gallery(name)).expect("the gallery is good");
+        let svg = draw::svg(&sheet, &library::judge(&sheet.bytes()));
+        assert_eq!(svg.matches(">BLOCKED<").count(), blocked);
+        assert_eq!(svg.matches("class=\"state blocked\"").count(), blocked);
+        assert_eq!(svg.matches("<g").count(), svg.matches("</g>").count());
+        assert_eq!(svg.matches("class=\"name\"").count(), sheet.locals().len());
+    }
+}

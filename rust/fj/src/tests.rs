@@ -1,0 +1,238 @@
+//! The notation both ways, its errors, and the words beside a transcript.
+
+use crate::notation::{assemble, is_text, show, title};
+use crate::rehearsal::{beside, transcript};
+use crate::words::{fields, words, Fields};
+
+/// An event of every kind, with the fields of its record.
+const EVENTS: [(&str, Fields); 16] = [
+    ("begin 1 yes", [1, 1, 0, 0, 1, 0]),
+    ("begin 2 no", [1, 2, 0, 0, 2, 0]),
+    ("deliver 2 start from 1 yes", [2, 2, 1, 1, 1, 0]),
+    ("deliver 3 start from 1 no", [2, 3, 1, 1, 2, 0]),
+    ("deliver 1 yes from 2", [2, 1, 2, 2, 0, 0]),
+    ("deliver 8 abort from 7", [2, 8, 7, 8, 0, 0]),
+    ("notice 2 of 1", [3, 2, 1, 0, 0, 0]),
+    ("take over 2", [4, 2, 0, 0, 0, 0]),
+    ("conclude 1", [5, 1, 0, 0, 0, 0]),
+    ("stop 3", [6, 3, 0, 0, 0, 0]),
+    ("stop 1 during begin yes leaving 2 3", [17, 1, 0, 0, 1, 6]),
+    ("stop 2 during deliver start from 1 yes leaving 1", [18, 2, 1, 1, 1, 1]),
+    ("stop 2 during deliver move-p from 1 leaving none", [18, 2, 1, 4, 0, 0]),
+    ("stop 2 during notice of 1 leaving none", [19, 2, 1, 0, 0, 0]),
+    ("stop 2 during take over leaving 3 8", [20, 2, 0, 0, 0, 132]),
+    ("stop 1 during conclude leaving 1 2 3 4 5 6 7 8", [21, 1, 0, 0, 0, 255]),
+];
+
+/// All fields that the library writes as a record, with one or another set where there is one.
+fn all_fields() -> impl Iterator<Item = Fields> {
+    let small = |range: std::ops::RangeInclusive<u8>| range.collect::<Vec<u8>>();
+    let kinds = small(1..=6).into_iter().chain(17..=21);
+    kinds.flat_map(move |k| {
+        let numbers = (0..9u32 * 9 * 9 * 3).map(|rest| {
+            let [s, o, m, v] = [rest % 9, rest / 9 % 9, rest / 81 % 9, rest / 729];
+            [s as u8, o as u8, m as u8, v as u8]
+        });
+        numbers.flat_map(move |[s, o, m, v]| {
+            let sets: &[u8] = if k > 16 { &[0, 1, 90, 128, 255] } else { &[0] };
+            sets.iter().map(move |&x| [k, s, o, m, v, x]).filter(|&[k, s, o, m, v, x]| {
+                fjadrimor::calls::record_write(k, s, o, m, v, x, &mut [0; 9], 0) == 0
+            })
+        })
+    })
+}
+
+/// Numbers that look like chance.
+pub fn chance(seed: u64) -> impl FnMut() -> u64 {
+    let mut state = seed;
+    move || {
+        state =
+            state.wrapping_mul(6_364_136_223_846_793_005).wrapping_add(1_442_695_040_888_963_407);
+        state >> 33
+    }
+}
+
+fn why(text: &str) -> String {
+    assemble(text).expect_err(text)
+}
+
+#[test]
+fn every_kind_of_event_has_its_words() {
+    for (text, record) in EVENTS {
+        let said: Vec<&str> = text.split(' ').collect();
+        assert_eq!(fields(&said), Ok(record), "{text}");
+        assert_eq!(words(record), text);
+    }
+}
+
+#[test]
+fn every_record_is_read_back_from_its_words() {
+    let mut count = 0;
+    for record in all_fields() {
+        let text = words(record);
+        assert_eq!(fields(&text.split(' ').collect::<Vec<_>>()), Ok(record), "{text}");
+        count += 1;
+    }
+    // Begin 16, deliver 8 * 8 * 9, notice 64, take over and conclude 8 each; stops during them
+    // with five sets; and 8 stops.
+    assert_eq!(count, (16 + 576 + 64 + 8 + 8) * 6 + 8);
+}
+
+#[test]
+fn a_journal_is_shown_as_it_is_written() {
+    let lines: Vec<&str> = EVENTS.iter().map(|(text, _)| *text).collect();
+    let text = format!("sites 3\n{}\n", lines.join("\n"));
+    let bytes = assemble(&text).unwrap();
+    assert_eq!(bytes.len(), 1 + 9 * EVENTS.len());
+    assert_eq!(bytes[..10], [3, 0, 7, 1, 1, 1, 0, 0, 1, 0]);
+    assert_eq!(show(&bytes), text);
+}
+
+#[test]
+fn comments_blanks_capitals_and_order_do_not_matter() {
+    let free =
+        "\u{feff}# A title\r\n\r\n  Sites\t2 # two\r\nSTOP 1 during Take Over leaving 3 2 2\r\n\
+                stop 1 during conclude\nrepeat 2 deliver 2 Move-p from 1";
+    let bytes = assemble(free).unwrap();
+    let canonical = "sites 2\nstop 1 during take over leaving 2 3\n\
+                     stop 1 during conclude leaving none\n\
+                     deliver 2 move-p from 1\ndeliver 2 move-p from 1\n";
+    assert_eq!(show(&bytes), canonical);
+    assert_eq!(assemble(canonical), Ok(bytes));
+    assert_eq!(title(free), Some("A title"));
+    assert_eq!(title("sites 2\n# later"), None);
+    assert_eq!(title("#\n# second\nsites 2"), None);
+}
+
+#[test]
+fn what_the_run_will_refuse_is_kept() {
+    for text in
+        ["sites 0\n", "sites 255\nbegin 1 yes\n", "sites 2\nstop 8\nstop 8\nnotice 5 of 5\n"]
+    {
+        assert_eq!(show(&assemble(text).unwrap()), text);
+    }
+}
+
+#[test]
+fn damaged_bytes_are_kept() {
+    let good = "sites 2\nbegin 1 yes\n";
+    let damages = [
+        ("bytes 00\n", 10),
+        ("bytes 00 07 01 05 01\n", 10),
+        ("bytes 00 08\n", 11),
+        ("bytes 00 07 02 05 01 00 00 00 00\n", 12),
+        ("bytes 00 07 01 07 01 00 00 00 00\nbytes 00 07 01 05 01 00 00 00 00\n", 13),
+        ("bytes 00 07 01 05 09 00 00 00 00\nbytes ff\n", 14),
+    ];
+    for (damage, ground) in damages {
+        let bytes = assemble(&format!("{good}{damage}")).unwrap();
+        let shown = show(&bytes);
+        assert!(shown.starts_with(&format!("{good}# bad {ground}: ")), "{shown}");
+        assert!(shown.ends_with(damage), "{shown}");
+        assert_eq!(assemble(&shown), Ok(bytes));
+    }
+}
+
+#[test]
+fn bytes_that_are_a_good_record_are_shown_in_words() {
+    let bytes = assemble("sites 2\nbytes 00 07 01\nbytes 05 01 00 00 00 00").unwrap();
+    assert_eq!(show(&bytes), "sites 2\nconclude 1\n");
+}
+
+#[test]
+fn any_bytes_are_shown_and_assembled_again() {
+    let mut next = chance(1);
+    for length in 0..400 {
+        let mut bytes: Vec<u8> = (0..length).map(|_| (next() % 256) as u8).collect();
+        // Every second journal has good heads, so that words and bytes are mixed.
+        if length % 2 == 0 {
+            bytes.iter_mut().skip(1).for_each(|byte| *byte %= 5);
+            (1..bytes.len()).step_by(9).for_each(|at| {
+                for (byte, head) in bytes[at..].iter_mut().zip([0, 7, 1]) {
+                    *byte = head;
+                }
+            });
+        }
+        let shown = show(&bytes);
+        assert!(is_text(shown.as_bytes()));
+        assert_eq!(assemble(&shown), Ok(bytes));
+    }
+}
+
+#[test]
+fn text_and_bytes_are_told_apart() {
+    assert!(is_text(b"sites 2\n") && is_text("# M\u{fc}nchen\r\n\tsites 2".as_bytes()));
+    for n in 2..=8 {
+        assert!(!is_text(&[n]));
+        assert!(!is_text(&[n, b'a', b'b']));
+    }
+    assert!(is_text(b"# M\xfcnchen\nsites 2"));
+    let other: [&[u8]; 4] = [b"", b"\n", b"sites 2\0", b"\n\x00\x07\x01\x05\x01\x00\x00\x00\x00"];
+    assert!(other.iter().all(|file| !is_text(file)));
+}
+
+#[test]
+fn an_error_names_the_line_and_the_reason() {
+    let errors = [
+        ("begin 1 yes", "line 1: the number of sites comes first"),
+        ("\n# nothing\nsites", "line 3: the number of sites comes first"),
+        ("sites 2\nsites 2", "line 2: the number of sites has been said already"),
+        ("sites x", "line 1: `x` is not a number from 0 to 255"),
+        ("sites 256", "line 1: `256` is not a number"),
+        ("sites +2", "line 1: `+2` is not a number"),
+        ("sites 2\n\nbegn 1 yes", "line 3: `begn 1 yes` is not understood; a line begins with"),
+        ("sites 2\nbegin 1", "line 2: `begin 1` is not understood; write it as: begin 1 yes"),
+        ("sites 2\nbegin 1 maybe", "line 2: `maybe` is not a vote"),
+        ("sites 2\ndeliver 2 move from 1", "line 2: `move` is not a message; messages are start,"),
+        ("sites 2\ndeliver 2 start to 1 yes", "write it as: deliver 2 start from 1 yes"),
+        ("sites 2\nnotice 2 1", "write it as: notice 2 of 1"),
+        ("sites 2\ntake 2", "write it as: take over 2"),
+        ("sites 2\nconclude", "write it as: conclude 1"),
+        ("sites 2\nstop 1 during begin leaving 2", "write it as: stop 3, or stop 1 during"),
+        ("sites 2\nstop 1 during conclude leaving", "line 2: after leaving come sites, or none"),
+        ("sites 2\nstop 1 during conclude leaving 9", "line 2: `9` is not a site"),
+        ("sites 2\nrepeat 3", "write it as: repeat 10 conclude 1"),
+        ("sites 2\nrepeat 100001 conclude 1", "line 2: a line can be repeated 0 to 100000 times"),
+        ("sites 2\nbytes 0 7", "line 2: `0` is not a byte"),
+        ("sites 2\nbytes +1", "line 2: `+1` is not a byte"),
+    ];
+    for (text, expected) in errors {
+        let found = why(text);
+        assert!(found.contains(expected) && found.starts_with("line "), "{text}: {found}");
+    }
+}
+
+#[test]
+fn the_library_decides_about_fields() {
+    let refused = "line 2: refused 14: a field is outside its range; write it as: ";
+    for event in ["stop 9", "begin 0 yes", "deliver 2 start from 1", "deliver 1 yes from 2 no"] {
+        assert!(why(&format!("sites 2\n{event}")).starts_with(refused), "{event}");
+    }
+    assert!(why("sites 2\nnotice 1 of 9").contains("refused 14"));
+}
+
+#[test]
+fn words_stand_beside_the_transcript() {
+    let text = "sites 2\nbegin 1 yes\nconclude 1\nbytes 00 07 02 05 01 00 00 00 00";
+    let journal = assemble(text).unwrap();
+    let told = transcript(&journal).unwrap();
+    assert_eq!(told, "sites 2\n1 taken wq\n2 refused 5 wq\n3 bad 12\nend 1 1\n");
+    assert_eq!(
+        beside(&told, &journal),
+        "sites 2\n\
+         1 taken wq      begin 1 yes\n\
+         2 refused 5 wq  conclude 1 (begin, take over or conclude is not allowed here)\n\
+         3 bad 12        (the record's version is not 1; no more is read)\n\
+         end 1 1         events accepted: 1, messages written: 1\n"
+    );
+}
+
+#[test]
+fn no_sites_no_run() {
+    for journal in [&[][..], &[9], &[0, 0, 7]] {
+        let told = transcript(journal).unwrap();
+        assert_eq!(told, "refused 1\n");
+        assert!(beside(&told, journal).contains("the number of sites is not 2 to 8"));
+        assert!(crate::chart::chart(journal, None).unwrap_err().starts_with("refused 1: "));
+    }
+}

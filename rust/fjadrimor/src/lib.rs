@@ -1,0 +1,65 @@
+//! The proved commit protocol for ledgers, as safe Rust types over the static library `libembed.a`.
+//!
+//! Two to eight ledger sites post one dated entry, or all back it out, also where some of them stop
+//! on the way. Whatever is decided is decided by the library: this crate holds its bytes, hands
+//! them over and puts names to what comes back. It has no dependencies. `FJ_LIB_DIR` names the
+//! folder with the library when it is built.
+//!
+//! # Where to start
+//!
+//! A ledger keeps one [`Site`]. When something happens to it, it makes a [`Step`] of that, takes it
+//! with [`Site::step`], sends the messages that the answer names, and saves [`Site::bytes`]:
+//!
+//! ```
+//! use fjadrimor::{Kind, Site, State, Step, Vote};
+//!
+//! // Ledger 2 of 3 hears Start from ledger 1, and its entry may be posted.
+//! let mut site = Site::fresh(3, 2)?;
+//! let done = site.step(Step::Start { from: 1, vote: Vote::Yes })?;
+//!
+//! // Its Yes leaves first, and the record is saved after it.
+//! assert_eq!(done.messages().collect::<Vec<_>>(), [(Kind::Yes, 1)]);
+//! assert_eq!(site.state(), State::Wait);
+//! let saved: [u8; 8] = site.bytes();
+//! assert_eq!(Site::from_bytes(saved)?, site);
+//! # Ok::<(), fjadrimor::Refusal>(())
+//! ```
+//!
+//! [`Step::TakeOver`] and [`Step::Conclude`] are not heard of from outside. A ledger tries them after
+//! every other step, until both are refused with [`Refusal::NotAllowed`], which here means *not yet*.
+//!
+//! The package `ledgers` beside this one is a whole program of that kind, with sockets and files.
+//!
+//! # What else there is
+//!
+//! - [`Run`]: all sites together with the messages between them, for rehearsals and tests. An
+//!   [`Event`] is a step of one site, a stop, or a stop inside a step.
+//! - [`Journal`]: events as bytes, and their rehearsal as text.
+//! - [`Sheet`]: a commit protocol written down, and the [`Verdict`] whether it is nonblocking.
+//! - [`Refusal`]: why a call was refused, with the number of document 01 and a sentence.
+//! - [`calls`]: the C interface itself, on bytes.
+
+pub mod calls;
+mod event;
+#[cfg(feature = "journal")]
+mod journal;
+mod message;
+mod refusal;
+#[cfg(feature = "run")]
+mod run;
+#[cfg(feature = "sheet")]
+mod sheet;
+mod site;
+mod sites;
+
+pub use event::{Event, Step};
+#[cfg(feature = "journal")]
+pub use journal::{Events, Journal};
+pub use message::{Kind, Message, Vote};
+pub use refusal::Refusal;
+#[cfg(feature = "run")]
+pub use run::{Ran, Run};
+#[cfg(feature = "sheet")]
+pub use sheet::{Decision, Judgement, Local, Sheet, Verdict};
+pub use site::{Done, Outcome, Site, State};
+pub use sites::Sites;
