@@ -8,11 +8,11 @@
 //! # By hand
 //!
 //! ```text
-//! ledgers open /tmp/register 3
-//! ledgers run /tmp/register 3 2             in a terminal
-//! ledgers run /tmp/register 3 3             in another
-//! ledgers run /tmp/register 3 1 paced       in a third: type close, then Enter for each action
-//! ledgers show /tmp/register 3
+//! ledgers open register 3
+//! ledgers run register 3 2             in a terminal
+//! ledgers run register 3 3             in another
+//! ledgers run register 3 1 paced       in a third: type close, then Enter for each action
+//! ledgers show register 3
 //! ```
 //!
 //! Kill the third (`kill -9`) as it is about to send its second Commit: the other two post.
