@@ -1,5 +1,6 @@
 /*
- * fjadrimor.h - a proved three-phase commit for two to eight sites, on numbers and bytes.
+ * fjadrimor.h - a proved three-phase commit for two to eight sites, its event journal, and a judge
+ * of commit protocols, on numbers and bytes.
  *
  * Link with the archive that `rt staticlib embed` writes (target/staticlib/libembed.a).
  *
@@ -71,12 +72,30 @@ enum {
     FJ_WRONG_VERSION = 12, /* the record's version is not 1 */
     FJ_UNKNOWN_K = 13,     /* K is unknown */
     FJ_WRONG_FIELD = 14,   /* a field outside its range, or not 0 where K does not use it */
-    FJ_NO_ROOM = 15        /* a slice too short (or, for a fresh run, of the wrong length) */
+    FJ_NO_ROOM = 15,       /* a slice too short (or, for a fresh run, of the wrong length) */
+    FJ_FEW_WORDS = 20,     /* fewer than 4,096 words are lent */
+    FJ_SHEET_SIZE = 21,    /* fewer than 2 bytes, not exactly 2 + L, or L is 0 */
+    FJ_SHEET_VERSION = 22, /* the sheet's version is not 1 */
+    FJ_SHEET_COUNTS = 23,  /* a site or state count is missing or outside its range */
+    FJ_SHEET_LENGTH = 24,  /* no transition count, more than 64, or L is not what the counts give */
+    FJ_SHEET_RANGE = 25,   /* a mark, site, state or vote outside its range */
+    FJ_READS_NOTHING = 26, /* a transition reads nothing */
+    FJ_READ_TWICE = 27,    /* a message is read by two sites */
+    FJ_NOT_FINAL = 28,     /* abort leads to non-abort, or commit to non-commit */
+    FJ_CYCLE = 29,         /* a site's diagram has a cycle */
+    FJ_MANY_STATES = 30,   /* more than 4,096 global states are reachable */
+    FJ_CLASH = 31          /* a transition writes a message that is still outstanding */
 };
 
-/* Bytes of a site, a run, a record; least bytes of the answers. */
+/* Bytes of a site, a run, a record. */
 enum { FJ_SITE = 8, FJ_RUN = 138, FJ_RECORD = 9 };
-enum { FJ_SITE_ANSWER = 5, FJ_RUN_ANSWER = 3, FJ_FIELDS = 6 };
+
+/* The least that answers need: bytes, and for the judge words too. */
+enum { FJ_SITE_ANSWER = 5, FJ_RUN_ANSWER = 3, FJ_FIELDS = 6, FJ_VERDICT = 206, FJ_WORDS = 4096 };
+
+/* The least room for the texts: of a rehearsal of so many bytes, and of a report. */
+#define FJ_REHEARSAL_ROOM(size) (38 + 26 * (((size) < 65536 ? (size) : 65536) / 9))
+enum { FJ_REPORT_ROOM = 3722 };
 
 /* ---- a site ----------------------------------------------------------------------------- */
 
@@ -182,6 +201,57 @@ uint8_t fj_record_read(const uint8_t *journal, size_t journal_len, size_t at,
  */
 uint8_t fj_record_write(uint8_t k, uint8_t s, uint8_t o, uint8_t m, uint8_t v, uint8_t x,
                         uint8_t *room, size_t room_len, size_t at);
+
+/*
+ * Rehearses a journal: one byte n, then records. Puts the text (a line for each record, and the
+ * letters of the sites) at the front of text and returns its length. Only the first 65,536 bytes
+ * of the input are taken. Returns 0, with nothing written, where the room has fewer bytes than
+ * FJ_REHEARSAL_ROOM(input_len); 189344 bytes are enough for every input.
+ */
+size_t fj_rehearse(const uint8_t *input, size_t input_len, uint8_t *text, size_t text_len);
+
+/* ---- protocol sheets -------------------------------------------------------------------- */
+
+/*
+ * A sheet: the length L of all that follows (2 bytes, big-endian), the version 1, the number of
+ * sites (2 to 4), a state count for each (1 to 8), a mark for each state (0 working, 1 abort,
+ * 2 commit), the messages outstanding at first (4 bytes, big-endian), the number of transitions
+ * (up to 64), then 12 bytes for each: site, from, to, vote, reads (4), writes (4).
+ *
+ * A global state as a word: outstanding messages + 2^32 * votes + 2^36 * (s1 + 8 * s2 + 64 * s3
+ * + 512 * s4).
+ */
+
+/*
+ * Judges a sheet. Returns 0 or the refusal: 15 first of all, for fewer than 206 bytes of out, with
+ * nothing written; then 20 to 31 in order.
+ *
+ * Accepted, the first 4,096 words are the reachable global states, ascending, and then zeros. 20
+ * to 29 leave the words, 30 and 31 set the first 4,096 to zero.
+ *
+ * Written to the first 206 bytes of out, all zeros after 20 to 31:
+ *     0        sites
+ *     1 to 2   the number of reachable states, big-endian
+ *     3        1 where the sheet is nonblocking
+ *     4 to 6   where it is blocking: the lowest site, its state, the condition broken
+ *     7        tolerance
+ *     8 to 13  zeros
+ *    14 to 205 six bytes for each local state, state j of site i at 14 + 6 * (8 * (i - 1) + j);
+ *              zeros where the sheet has no such state:
+ *                0       bit 0 reached, bit 1 committable
+ *                1       decision: 0 none (not reached), 1 abort, 2 commit, 3 blocked
+ *                2 to 5  the concurrency set, big-endian: state j of site i is bit 8 * (i - 1) + j
+ */
+uint8_t fj_sheet_judge(const uint8_t *sheet, size_t sheet_len, uint64_t *words, size_t words_len,
+                       uint8_t *out, size_t out_len);
+
+/*
+ * The report on a sheet as text, at the front of text; `refused N` for a refused one. Returns its
+ * length, and leaves the words as the judge leaves them. Returns 0, with nothing touched, where
+ * the room has fewer than FJ_REPORT_ROOM bytes.
+ */
+size_t fj_sheet_report(const uint8_t *sheet, size_t sheet_len, uint64_t *words, size_t words_len,
+                       uint8_t *text, size_t text_len);
 
 #ifdef __cplusplus
 }

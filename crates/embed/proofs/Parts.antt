@@ -3,15 +3,12 @@
 use Prim.Native.Nat.{ℕ, zero, suc, _+_, _-_, _*_, _≤_, _<_}
 use mathlib.Core.List.{List, [], _∷_, _++_, map, flatMap, append-nil, append-assoc}
 use mathlib.Core.Path.{_≡_, refl, sym, ap, _∙_}
-use native.Mathlib.Nat.{le-of-eq, le-of-lt}
+use native.Mathlib.Nat.{le-of-eq, le-of-lt, add-comm, mul-zero, mul-suc, add-sub-of-le}
 use native.Mathlib.Numerals.{add-one}
 use native.Mathlib.Omega.{arith}
 use lib.ListN.{length, getD, set, take, drop, length-append, length-take, length-drop, length-map, drop-of-length-le}
 use lib.Seq.{take-all, take-at, drop-at, drop-drop, drop-cons, take-suc, set-at, append-snoc, length-take-le}
 use borrow.Rule.Slice.PartMut.{putMid}
-use Rattle.site.specs.declared.Site.{Site}
-use Rattle.run.specs.Run.{noSite}
-use Rattle.embed.specs.Bytes.{siteBytes}
 
 -- an array of structs in a struct has its length
 pub length-mapped : (A B : Type 0) (f : A → B) (l : List A) (n : ℕ) → length (map f l) ≡ n → length l ≡ n
@@ -52,44 +49,49 @@ front-more d s j hd hs =
 pub length-front : (d s : List ℕ) (j : ℕ) → j ≤ length d → j ≤ length s → length (front d s j) ≡ length d
 length-front d s j hd hs = simp (length-append, length-take, length-drop) (omega arith)
 
--- ---- sites written one after the other
+-- ---- elements written one after the other, each in w bytes
 
-module _ (d : List ℕ) (sites : List Site) where
-  abbrev pub sitesFront : ℕ → List ℕ
-  sitesFront i = flatMap siteBytes (take i sites) ++ drop (8 * i) d
+-- the first i elements of xs, then what d has there
+abbrev pub written : {A : Type 0} → (A → List ℕ) → ℕ → List ℕ → List A → ℕ → List ℕ
+written put w d xs i = flatMap put (take i xs) ++ drop (w * i) d
 
-flat-append : (a b : List Site) → flatMap siteBytes (a ++ b) ≡ flatMap siteBytes a ++ flatMap siteBytes b
+flat-append : {A : Type 0} (put : A → List ℕ) (a b : List A) → flatMap put (a ++ b) ≡ flatMap put a ++ flatMap put b
 unfolding flatMap
-flat-append [] b = refl
-flat-append (x ∷ xs) b = ap (λ (l : List ℕ). siteBytes x ++ l) (flat-append xs b) ∙ sym (append-assoc (siteBytes x) (flatMap siteBytes xs) (flatMap siteBytes b))
+flat-append put [] b = refl
+flat-append put (x ∷ xs) b = ap (λ (l : List ℕ). put x ++ l) (flat-append put xs b) ∙ sym (append-assoc (put x) (flatMap put xs) (flatMap put b))
 
-pub flat-length : (l : List Site) → length (flatMap siteBytes l) ≡ 8 * length l
-unfolding flatMap siteBytes
-flat-length [] = refl
-flat-length (x ∷ xs) = simp (flat-length xs) (omega arith)
+module _ {A : Type 0} (put : A → List ℕ) (w : ℕ) (wide : (x : A) → length (put x) ≡ w) where
+  pub flat-length : (l : List A) → length (flatMap put l) ≡ w * length l
+  unfolding flatMap
+  flat-length [] = sym (mul-zero w)
+  flat-length (x ∷ xs) =
+      length-append (put x) (flatMap put xs)
+      ∙ ap (λ (k : ℕ). k + length (flatMap put xs)) (wide x)
+      ∙ ap (λ (k : ℕ). w + k) (flat-length xs)
+      ∙ add-comm w (w * length xs)
+      ∙ sym (mul-suc w (length xs))
 
-flat-more : (sites : List Site) (i : ℕ) → i < length sites
-    → flatMap siteBytes (take (suc i) sites) ≡ flatMap siteBytes (take i sites) ++ siteBytes (getD sites i noSite)
-unfolding flatMap
-flat-more sites i h =
-    ap (flatMap siteBytes) (take-suc sites i noSite h)
-    ∙ flat-append (take i sites) (getD sites i noSite ∷ [])
-    ∙ ap (λ (l : List ℕ). flatMap siteBytes (take i sites) ++ l) (append-nil (siteBytes (getD sites i noSite)))
+  taken-length : (xs : List A) (i : ℕ) → i ≤ length xs → length (flatMap put (take i xs)) ≡ w * i
+  taken-length xs i h = flat-length (take i xs) ∙ ap (λ (k : ℕ). w * k) (length-take-le i xs h)
 
-taken-length : (sites : List Site) (i : ℕ) → i ≤ length sites → length (flatMap siteBytes (take i sites)) ≡ 8 * i
-taken-length sites i h = flat-length (take i sites) ∙ ap (λ (k : ℕ). 8 * k) (length-take-le i sites h)
+  pub length-written : (d : List ℕ) (xs : List A) (i : ℕ) → i ≤ length xs → w * i ≤ length d → length (written put w d xs i) ≡ length d
+  length-written d xs i h f = simp (length-append, taken-length xs i h, length-drop) (add-sub-of-le f)
 
-pub length-sites : (d : List ℕ) (sites : List Site) (i : ℕ) → i ≤ length sites → 8 * i ≤ length d → length (sitesFront d sites i) ≡ length d
-length-sites d sites i h f = simp (length-append, taken-length sites i h, length-drop) (omega arith)
+  module _ (none : A) where
+    flat-more : (xs : List A) (i : ℕ) → i < length xs → flatMap put (take (suc i) xs) ≡ flatMap put (take i xs) ++ put (getD xs i none)
+    unfolding flatMap
+    flat-more xs i h =
+        ap (flatMap put) (take-suc xs i none h)
+        ∙ flat-append put (take i xs) (getD xs i none ∷ [])
+        ∙ ap (λ (l : List ℕ). flatMap put (take i xs) ++ l) (append-nil (put (getD xs i none)))
 
-pub sites-more : (d : List ℕ) (sites : List Site) (i : ℕ) → i < length sites → (l last : List ℕ) → l ≡ sitesFront d sites i
-    → last ≡ siteBytes (getD sites i noSite) ++ drop 8 (take (length l - 8 * i) (drop (8 * i) l))
-    → putMid (8 * i) (length l - 8 * i) l last ≡ sitesFront d sites (i + 1)
-sites-more d sites i there l last e w =
-    part-put (flatMap siteBytes (take i sites)) (drop (8 * i) d) (siteBytes (getD sites i noSite)) (8 * i) 8 l last (taken-length sites i (le-of-lt there)) e w
-    ∙ sym (append-assoc (flatMap siteBytes (take i sites)) (siteBytes (getD sites i noSite)) (drop 8 (drop (8 * i) d)))
-    ∙ ap (λ (x : List ℕ). x ++ drop 8 (drop (8 * i) d)) (sym (flat-more sites i there) ∙ ap (λ (k : ℕ). flatMap siteBytes (take k sites)) (sym (add-one i)))
-    ∙ ap (λ (x : List ℕ). flatMap siteBytes (take (i + 1) sites) ++ x) (drop-drop 8 (8 * i) d ∙ ap (λ (k : ℕ). drop k d) next)
-  where
-    next : 8 * i + 8 ≡ 8 * (i + 1)
-    next = omega arith
+    -- one more element goes into the part from its place on
+    pub written-more : (d : List ℕ) (xs : List A) (i : ℕ) → i < length xs → (l last : List ℕ) → l ≡ written put w d xs i
+        → last ≡ put (getD xs i none) ++ drop w (take (length l - w * i) (drop (w * i) l))
+        → putMid (w * i) (length l - w * i) l last ≡ written put w d xs (i + 1)
+    written-more d xs i there l last e v =
+        part-put (flatMap put (take i xs)) (drop (w * i) d) (put (getD xs i none)) (w * i) w l last (taken-length xs i (le-of-lt there)) e v
+        ∙ sym (append-assoc (flatMap put (take i xs)) (put (getD xs i none)) (drop w (drop (w * i) d)))
+        ∙ ap (λ (x : List ℕ). x ++ drop w (drop (w * i) d)) (sym (flat-more xs i there))
+        ∙ ap (λ (x : List ℕ). flatMap put (take (suc i) xs) ++ x) (drop-drop w (w * i) d ∙ ap (λ (k : ℕ). drop k d) (sym (mul-suc w i)))
+        ∙ ap (written put w d xs) (sym (add-one i))

@@ -5,13 +5,13 @@ use mathlib.Core.Bool.{Bool, true, false, _&&_, false≢true}
 use mathlib.Core.List.{List, [], _∷_, _++_, map, flatMap, append-assoc}
 use mathlib.Core.Path.{_≡_, refl, sym, ap, subst, _∙_}
 use native.Mathlib.Nat.{le-of-eq}
-use native.Mathlib.Decide.{ℕ-discrete}
 use native.Mathlib.Omega.{arith}
 use lib.Dec.{eqb, leb}
 use lib.ListN.{length, getD, take, drop, take-append-drop, length-drop}
 use lib.Seq.{drop-cons, drop-drop, take-all}
 use borrow.Author.Tests.{eqb-true, leb-true}
 use Rattle.run.specs.Sound.{every}
+use Rattle.run.specs.SoundLaws.{every-at}
 use Rattle.embed.specs.Bytes.{stateByte, stateFrom, siteBytes, siteFrom}
 use Rattle.embed.specs.SiteCall.{isRecord}
 use Rattle.embed.specs.RunCalls.{runBytes, runFrom, isRun}
@@ -23,15 +23,6 @@ and-first false b h = absurd (false≢true h)
 and-second : (a b : Bool) → (a && b) ≡ true → b ≡ true
 and-second true b h = h
 and-second false b h = absurd (false≢true h)
-
--- a test of every number below n holds of each
-each : (f : ℕ → Bool) (n i : ℕ) → i < n → every n f ≡ true → f i ≡ true
-each f zero i l h = absurd (omega arith)
-each f (suc n) i l h = go (ℕ-discrete i n) (λ q. each f n i (omega arith) (and-first (every n f) (f n) h))
-  where
-    go : Dec (i ≡ n) → ((i ≡ n → ⊥) → f i ≡ true) → f i ≡ true
-    go (yes e) below = ap f e ∙ and-second (every n f) (f n) h
-    go (no q) below = below q
 
 -- ---- a site
 
@@ -71,13 +62,15 @@ site-part l at h s =
     none : at ≡ at + 0
     none = omega arith
 
+pub record-length : (l : List ℕ) → isRecord l ≡ true → length l ≡ 8
+unfolding isRecord
+record-length l h = eqb-true (length l) 8 (and-first (eqb (length l) 8) (leb (getD l 2 0) 4) h)
+
 pub site-again : (l : List ℕ) → isRecord l ≡ true → siteBytes (siteFrom l 0) ≡ l
 unfolding isRecord
 site-again l h =
-    site-part l 0 (le-of-eq (sym whole)) (and-second (eqb (length l) 8) (leb (getD l 2 0) 4) h) ∙ take-all 8 l (le-of-eq whole)
-  where
-    whole : length l ≡ 8
-    whole = eqb-true (length l) 8 (and-first (eqb (length l) 8) (leb (getD l 2 0) 4) h)
+    site-part l 0 (le-of-eq (sym (record-length l h))) (and-second (eqb (length l) 8) (leb (getD l 2 0) 4) h)
+    ∙ take-all 8 l (le-of-eq (record-length l h))
 
 -- ---- a run
 
@@ -108,31 +101,30 @@ module _ (l : List ℕ) where
   sites-part (suc k) p h s =
       append-assoc (siteBytes (siteFrom l p)) (flatMap siteBytes (map (siteFrom l) (places k (p + 8)))) (drop (p + 8 * suc k) l)
       ∙ ap (λ (x : List ℕ). siteBytes (siteFrom l p) ++ x)
-      (ap (λ (j : ℕ). flatMap siteBytes (map (siteFrom l) (places k (p + 8))) ++ drop j l) next
-      ∙ sites-part k (p + 8) (omega arith) (known-next k p s) ∙ sym (drop-drop 8 p l))
+        (ap (λ (j : ℕ). flatMap siteBytes (map (siteFrom l) (places k (p + 8))) ++ drop j l) next
+        ∙ sites-part k (p + 8) (omega arith) (known-next k p s) ∙ sym (drop-drop 8 p l))
       ∙ ap (λ (x : List ℕ). x ++ drop 8 (drop p l)) (site-part l p (omega arith) (ap (λ (j : ℕ). leb (getD l j 0) 4) first ∙ s 0 (omega arith)))
       ∙ take-append-drop 8 (drop p l)
     where
       first : p + 2 ≡ 8 * 0 + (p + 2)
       first = omega arith
-
       next : p + 8 * suc k ≡ p + 8 + 8 * k
       next = omega arith
+
+  pub run-length : isRun l ≡ true → length l ≡ 138
+  unfolding isRun
+  run-length h = eqb-true (length l) 138 (and-first (eqb (length l) 138) (every 8 (λ (i : ℕ). leb (getD l (8 * i + 4) 0) 4)) h)
 
   pub run-again : isRun l ≡ true → runBytes (runFrom l) ≡ l
   unfolding isRun runBytes runFrom Known
   run-again h =
-      let full : length l ≡ 138 = whole in
+      let whole : length l ≡ 138 = run-length h in
       ap (λ (x : List ℕ). getD l 0 0 ∷ getD l 1 0 ∷ (flatMap siteBytes (map (siteFrom l) (places 8 2)) ++ x)) (take-all 72 (drop 66 l) (le-of-eq tail))
       ∙ ap (λ (x : List ℕ). getD l 0 0 ∷ getD l 1 0 ∷ x) (sites-part 8 2 (omega arith) known)
       ∙ ap (λ (x : List ℕ). getD l 0 0 ∷ x) (sym (drop-cons l 1 0 (omega arith)))
       ∙ sym (drop-cons l 0 0 (omega arith))
     where
-      whole : length l ≡ 138
-      whole = eqb-true (length l) 138 (and-first (eqb (length l) 138) (every 8 (λ (i : ℕ). leb (getD l (8 * i + 4) 0) 4)) h)
-
       known : (i : ℕ) → i < 8 → leb (getD l (8 * i + 4) 0) 4 ≡ true
-      known i b = each (λ (i : ℕ). leb (getD l (8 * i + 4) 0) 4) 8 i b (and-second (eqb (length l) 138) (every 8 (λ (i : ℕ). leb (getD l (8 * i + 4) 0) 4)) h)
-
+      known = every-at 8 (λ (i : ℕ). leb (getD l (8 * i + 4) 0) 4) (and-second (eqb (length l) 138) (every 8 (λ (i : ℕ). leb (getD l (8 * i + 4) 0) 4)) h)
       tail : length (drop 66 l) ≡ 72
-      tail = length-drop 66 l ∙ ap (λ (k : ℕ). k - 66) whole
+      tail = length-drop 66 l ∙ ap (λ (k : ℕ). k - 66) (run-length h)

@@ -3,3 +3,4 @@ pub mod SiteCall
 pub mod RunCalls
 pub mod BytesLaws
 pub mod RecordCalls
+pub mod SheetCalls

@@ -1,4 +1,4 @@
--- `fj_record_read` and `fj_record_write`: what they return, and what they leave of the slice.
+-- `fj_record_read`, `fj_record_write` and `fj_rehearse`: what they return, and what they leave of the slice.
 -- Assumes nothing.
 use Prim.Native.Nat.{ℕ}
 use mathlib.Core.Bool.{cond}
@@ -11,6 +11,7 @@ use Rattle.run.specs.Fields.{body, fieldsFrom, eventFrom}
 use Rattle.journal.specs.declared.Found.{Found}
 use Rattle.journal.specs.declared.Found.the-variants.{Good, Bad}
 use Rattle.journal.specs.Record.{bodyOf, readOf, refusalOf, placedOf}
+use Rattle.transcript.specs.Transcript.{sizeIn, shownIn}
 use Rattle.embed.specs.Bytes.{Left, leaves}
 
 -- ---- `fj_record_read`
@@ -34,3 +35,9 @@ writeLeaves (made.Bad g) room at = leaves g room
 -- 13 and 14 as the fields have it come first
 unfoldable pub writeCall : ℕ → ℕ → ℕ → ℕ → ℕ → ℕ → List ℕ → ℕ → Left
 writeCall k s o m v x room at = writeLeaves (eventFrom (body k s o m v x)) room at
+
+-- ---- `fj_rehearse`
+
+-- the length of the text, and the text at the front of the room; 0, and the room as it was, where it is too small
+unfoldable pub rehearseCall : List ℕ → List ℕ → Left
+rehearseCall input room = leaves (sizeIn input room) (shownIn input room)

@@ -52,12 +52,11 @@ noEvent g run room = leavesBoth g run (2 ∷ 0 ∷ 0 ∷ drop 3 room)
 abbrev pub ranLeaves : Ran → List ℕ → List ℕ → LeftBoth
 ranLeaves a run room = called (a .outcome) run (runBytes (a .run)) (ranBytes a ++ drop 3 room)
 
--- 13 and 14 as the fields have it, then the event's own grounds
 abbrev pub happening : Made → List ℕ → List ℕ → LeftBoth
 happening (Good e) run room = ranLeaves (eventOf (runFrom run) e) run room
 happening (Bad g) run room = noEvent g run room
 
--- 15 comes first, with nothing touched; then 1
+-- 15 comes first, with nothing touched; then 1, 13 and 14 as the fields have it, then the event's own grounds
 unfoldable pub runCall : List ℕ → ℕ → ℕ → ℕ → ℕ → ℕ → ℕ → List ℕ → LeftBoth
 runCall run k s o m v x room =
     cond (ltb (length room) 3) (leavesBoth 15 run room)

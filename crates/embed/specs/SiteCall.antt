@@ -5,49 +5,52 @@ use mathlib.Core.Bool.{Bool, true, false, cond, _&&_}
 use mathlib.Core.List.{List, [], _∷_, _++_}
 use lib.Dec.{eqb, ltb, leb}
 use lib.ListN.{length, getD, drop}
-use Rattle.site.specs.declared.Outcome.the-variants.{Refused}
 use Rattle.site.specs.declared.Answer.{Answer}
 use Rattle.site.specs.Step.{stepOf}
 use Rattle.run.specs.declared.Event.the-variants.{Act, Stop, Cut}
-use Rattle.run.specs.Run.{noSite}
 use Rattle.run.specs.declared.fields.Made.{Made}
-use Rattle.run.specs.declared.fields.Made.the-variants.{Good, Bad}
+use Rattle.run.specs.declared.fields.Made.the-variants as made
 use Rattle.run.specs.Fields.{body, eventFrom}
+use Rattle.embed.specs.declared.site_calls.Told.{Told}
+use Rattle.embed.specs.declared.site_calls.Told.the-variants.{Good, Bad}
 use Rattle.embed.specs.Bytes.{siteBytes, siteFrom, outcomeByte, LeftBoth, leavesBoth, called}
 
--- ---- the step's answer, or the refusal of the call
-
--- a refusal before any step: no message, zero counts
-abbrev pub refusal : ℕ → Answer
-refusal g = record { site = noSite; outcome = Refused g; kind = 0; to = 0; counts = record { written = 0; awaited = 0 } }
-
--- the step that K, O, M and V tell, taken by the site whose bytes these are
-abbrev pub steppedBy : Made → List ℕ → Answer
-steppedBy (Good (Act a t)) site = stepOf (siteFrom site 0) t
-steppedBy (Good (Stop a)) site = refusal 13
-steppedBy (Good (Cut a t to)) site = refusal 13
-steppedBy (Bad g) site = refusal g
+-- ---- what is asked for
 
 -- 1 is given where this is false: eight bytes, with one of the five states
 unfoldable pub isRecord : List ℕ → Bool
 isRecord site = eqb (length site) 8 && leb (getD site 2 0) 4
 
--- 1, then 13 for a K that is not 1 to 5, then 14 as an event's fields have it, then the step's own grounds
-unfoldable pub siteAnswer : List ℕ → ℕ → ℕ → ℕ → ℕ → Answer
-siteAnswer site k o m v =
-    cond (isRecord site)
-    (cond (leb 1 k && leb k 5) (steppedBy (eventFrom (body k 0 o m v 0)) site) (refusal 13))
-    (refusal 1)
+-- 13 is given for a K that is not 1 to 5, 14 as an event's fields have it
+abbrev pub stepIn : Made → Told
+stepIn (made.Good (Act a t)) = Good t
+stepIn (made.Good (Stop a)) = Bad 13
+stepIn (made.Good (Cut a t to)) = Bad 13
+stepIn (made.Bad g) = Bad g
 
--- ---- what the call leaves
+unfoldable pub stepTold : ℕ → ℕ → ℕ → ℕ → Told
+stepTold k o m v = cond (leb 1 k && leb k 5) (stepIn (eventFrom (body k 0 o m v 0))) (Bad 13)
+
+-- ---- what is left
 
 -- the first five bytes of the answer: outcome, kind, receivers, messages written, sites awaited
 unfoldable pub answerBytes : Answer → List ℕ
 answerBytes a = outcomeByte (a .outcome) ∷ a .kind ∷ a .to ∷ a .counts .written ∷ a .counts .awaited ∷ []
 
+-- a refusal before any step: outcome 2 and zeros
+abbrev pub noStep : ℕ → List ℕ → List ℕ → LeftBoth
+noStep g site room = leavesBoth g site (2 ∷ 0 ∷ 0 ∷ 0 ∷ 0 ∷ drop 5 room)
+
+-- a step's answer, and the site's bytes as it leaves them
 abbrev pub stepLeaves : Answer → List ℕ → List ℕ → LeftBoth
 stepLeaves a site room = called (a .outcome) site (siteBytes (a .site)) (answerBytes a ++ drop 5 room)
 
--- 15 comes first, with nothing touched
+abbrev pub stepping : Told → List ℕ → List ℕ → LeftBoth
+stepping (Good t) site room = stepLeaves (stepOf (siteFrom site 0) t) site room
+stepping (Bad g) site room = noStep g site room
+
+-- 15 comes first, with nothing touched; then 1, 13, 14, then the step's own grounds
 unfoldable pub siteCall : List ℕ → ℕ → ℕ → ℕ → ℕ → List ℕ → LeftBoth
-siteCall site k o m v room = cond (ltb (length room) 5) (leavesBoth 15 site room) (stepLeaves (siteAnswer site k o m v) site room)
+siteCall site k o m v room =
+    cond (ltb (length room) 5) (leavesBoth 15 site room)
+    (cond (isRecord site) (stepping (stepTold k o m v) site room) (noStep 1 site room))

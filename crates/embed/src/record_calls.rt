@@ -1,4 +1,4 @@
-// Event records on bytes: reading one, writing one.
+// Event records on bytes: reading one, writing one, and rehearsing a journal of them.
 
 ghost use mathlib.Core.Path.{_≡_};
 ghost use mathlib.Core.List.{_++_};
@@ -6,12 +6,10 @@ ghost use Prim.Native.Nat.{_≤_};
 ghost use lib.ListN.{length, drop};
 ghost use Rattle.journal.specs.Record.{bodyOf};
 ghost use Rattle.embed.specs.Bytes.{leaves};
-ghost use Rattle.embed.specs.RecordCalls.{readCall, writeCall};
+ghost use Rattle.embed.specs.RecordCalls.{readCall, writeCall, rehearseCall};
+
 use journal::Found;
-use run::fields::Fields;
-use run::fields::Made;
-use run::fields::event_of;
-use run::fields::fields_of;
+use run::fields::{event_of, fields_of, Fields, Made};
 
 // K S O M V X, put at the front of a part.
 fn put_fields(room: &mut [u8], f: Fields)
@@ -47,16 +45,7 @@ pub extern "C" fn fj_record_read(journal: &[u8], at: usize, fields: &mut [u8]) -
 
 // The record of these fields, written into the nine bytes from a place on. Returns 0 or the refusal.
 #[no_mangle]
-pub extern "C" fn fj_record_write(
-    k: u8,
-    s: u8,
-    o: u8,
-    m: u8,
-    v: u8,
-    x: u8,
-    room: &mut [u8],
-    at: usize,
-) -> u8
+pub extern "C" fn fj_record_write(k: u8, s: u8, o: u8, m: u8, v: u8, x: u8, room: &mut [u8], at: usize) -> u8
     ensures { λ r. ⌜ leaves r (now (room .exit)) ≡ writeCall k s o m v x (now (room .entry)) at ⌝ }
 {
     let made = event_of(Fields { k, s, o, m, v, x });
@@ -64,4 +53,12 @@ pub extern "C" fn fj_record_write(
         Made::Good(event) => journal::write_at(room, at, event),
         Made::Bad(ground) => ground,
     }
+}
+
+// The rehearsal's text for a journal. Returns its length, 0 where the room is too small.
+#[no_mangle]
+pub extern "C" fn fj_rehearse(input: &[u8], text: &mut [u8]) -> usize
+    ensures { λ r. ⌜ leaves r (now (text .exit)) ≡ rehearseCall (now (input .entry)) (now (text .entry)) ⌝ }
+{
+    transcript::rehearse(input, text)
 }

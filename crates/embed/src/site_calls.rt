@@ -1,20 +1,15 @@
 // A single site step on bytes.
 
 ghost use mathlib.Core.Path.{_≡_};
-ghost use mathlib.Core.List.{_++_};
+ghost use mathlib.Core.List.{_∷_, _++_};
 ghost use Prim.Native.Nat.{_+_, _≤_};
 ghost use lib.ListN.{length, drop};
 ghost use Rattle.embed.specs.Bytes.{stateByte, stateFrom, siteBytes, siteFrom, outcomeByte, leavesBoth};
-ghost use Rattle.embed.specs.SiteCall.{refusal, isRecord, siteAnswer, answerBytes, siteCall};
+ghost use Rattle.embed.specs.SiteCall.{isRecord, stepTold, answerBytes, siteCall};
+
+use run::fields::{event_of, Fields, Made};
 use run::Event;
-use run::fields::Fields;
-use run::fields::Made;
-use run::fields::event_of;
-use site::Answer;
-use site::Counts;
-use site::Outcome;
-use site::Site;
-use site::State;
+use site::{Answer, Outcome, Site, State, Step};
 
 pub fn state_byte(state: State) -> u8
     ensures { λ r. ⌜ r ≡ stateByte state ⌝ }
@@ -83,30 +78,6 @@ pub fn put_site(bytes: &mut [u8], site: Site)
     bytes[7] = site.acked;
 }
 
-fn refused(ground: u8) -> Answer
-    ensures { λ r. ⌜ r ≡ refusal ground ⌝ }
-{
-    Answer {
-        site: Site {
-            n: 0,
-            number: 0,
-            state: State::Q,
-            leader: 0,
-            known: 0,
-            yes: 0,
-            no: 0,
-            acked: 0,
-        },
-        outcome: Outcome::Refused(ground),
-        kind: 0,
-        to: 0,
-        counts: Counts {
-            written: 0,
-            awaited: 0,
-        },
-    }
-}
-
 // Are these the bytes of a record?
 fn is_record(bytes: &[u8]) -> bool
     ensures { λ r. ⌜ r ≡ isRecord (now (bytes .entry)) ⌝ }
@@ -117,18 +88,20 @@ fn is_record(bytes: &[u8]) -> bool
     bytes[2] <= 4
 }
 
-// The answer of the step that K, O, M and V tell, taken by the site whose bytes these are.
-fn site_answer(bytes: &[u8], k: u8, o: u8, m: u8, v: u8) -> Answer
-    ensures { λ r. ⌜ r ≡ siteAnswer (now (bytes .entry)) k o m v ⌝ }
+// The step that K, O, M and V tell, or the refusal.
+enum Told {
+    Good(Step),
+    Bad(u8),
+}
+
+fn step_told(k: u8, o: u8, m: u8, v: u8) -> Told
+    ensures { λ r. ⌜ r ≡ stepTold k o m v ⌝ }
 {
-    if !is_record(bytes) {
-        return refused(1);
-    }
     if k < 1 {
-        return refused(13);
+        return Told::Bad(13);
     }
     if 5 < k {
-        return refused(13);
+        return Told::Bad(13);
     }
     let made = event_of(Fields {
         k,
@@ -140,12 +113,25 @@ fn site_answer(bytes: &[u8], k: u8, o: u8, m: u8, v: u8) -> Answer
     });
     match made {
         Made::Good(event) => match event {
-            Event::Act(_, step) => site_from(bytes, 0).step(step),
-            Event::Stop(_) => refused(13),
-            Event::Cut(_, _, _) => refused(13),
+            Event::Act(_, step) => Told::Good(step),
+            Event::Stop(_) => Told::Bad(13),
+            Event::Cut(_, _, _) => Told::Bad(13),
         },
-        Made::Bad(ground) => refused(ground),
+        Made::Bad(ground) => Told::Bad(ground),
     }
+}
+
+// The answer of a step that was not tried. Returns the refusal.
+fn refuse(room: &mut [u8], ground: u8) -> u8
+    requires { ⌜ 5 ≤ length (now room) ⌝ }
+    ensures { λ r. ⌜ (r ≡ ground) × (now (room .exit) ≡ 2 ∷ 0 ∷ 0 ∷ 0 ∷ 0 ∷ drop 5 (now (room .entry))) ⌝ }
+{
+    room[0] = 2;
+    room[1] = 0;
+    room[2] = 0;
+    room[3] = 0;
+    room[4] = 0;
+    ground
 }
 
 fn put_answer(room: &mut [u8], answer: Answer)
@@ -169,13 +155,22 @@ pub extern "C" fn fj_site_step(site: &mut [u8], k: u8, o: u8, m: u8, v: u8, answ
     if answer.len() < 5 {
         return 15;
     }
-    let given = site_answer(site, k, o, m, v);
-    put_answer(answer, given);
-    let outcome = given.outcome;
-    if let Outcome::Refused(ground) = outcome {
-        return ground;
+    if !is_record(site) {
+        return refuse(answer, 1);
     }
-    let next = given.site;
-    put_site(site, next);
-    0
+    let told = step_told(k, o, m, v);
+    match told {
+        Told::Good(step) => {
+            let given = site_from(site, 0).step(step);
+            put_answer(answer, given);
+            let outcome = given.outcome;
+            if let Outcome::Refused(ground) = outcome {
+                return ground;
+            }
+            let next = given.site;
+            put_site(site, next);
+            0
+        }
+        Told::Bad(ground) => refuse(answer, ground),
+    }
 }

@@ -3,8 +3,9 @@
 use mathlib.Core.Path.{_≡_, refl, sym, ap, _∙_}
 use native.Mathlib.Omega.{arith}
 use borrow.Author.Tests.{lt-ltb, le-ltb, not-true, not-false}
-use Rattle.embed.specs.RunCalls.{runCall}
-use Rattle.embed.proofs.RunCalls.{run-length, run-none, run-bad, run-refused, run-accepted}
+use Rattle.embed.specs.RunCalls.{runBytes, runCall}
+use Rattle.embed.specs.BytesLaws.{run-length}
+use Rattle.embed.proofs.Calls.{called-refused, called-accepted}
 use borrow.Author.Needs.{needs}
 use Rattle.embed.proofs.run_calls.fj_run_event.Statement.{statement}
 use Rattle.embed.proofs.run_calls.fj_run_event.Tie as tie
@@ -26,7 +27,8 @@ same-length-2 : tie.Need-same-length-2
 same-length-2 c = search needs
 
 returns-2 : tie.Need-returns-2
-returns-2 c = run-none (c .before .before .before .before .before .before .before .before .before .before .args .run .now) (c .before .before .before .before .before .before .before .before .before .before .args .answer .now) (c .before .before .before .before .before .before .before .before .before .before .args .k) (c .before .before .before .before .before .before .before .before .before .before .args .s) (c .before .before .before .before .before .before .before .before .before .before .args .o) (c .before .before .before .before .before .before .before .before .before .before .args .m) (c .before .before .before .before .before .before .before .before .before .before .args .v) (c .before .before .before .before .before .before .before .before .before .before .args .x) (le-ltb _ _ (c .before .before .before .before .before .before .before .if1 .left)) _ _ (c .before .before .refuse .ensures .0) (c .before .before .refuse .ensures .1) (sym (c .before .before .before .before .before .is-run .ensures) ∙ not-true _ (c .before .before .before .before .if2 .taken))
+unfolding runCall
+returns-2 c = simp (le-ltb _ _ (c .before .before .before .before .before .before .before .if1 .left), sym (c .before .before .before .before .before .is-run .ensures) ∙ not-true _ (c .before .before .before .before .if2 .taken), c .before .before .refuse .ensures .0, c .before .before .refuse .ensures .1)
 
 event-of-requires : tie.Need-event-of-requires
 event-of-requires c κs = search needs
@@ -53,7 +55,8 @@ same-length-4 : tie.Need-same-length-4
 same-length-4 c = search needs
 
 returns-3 : tie.Need-returns-3
-returns-3 c = run-refused (c .before .before .before .before .before .before .before .before .before .before .before .before .before .before .before .before .before .before .before .before .args .run .now) (c .before .before .before .before .before .before .before .before .before .before .before .before .before .before .before .before .before .before .before .before .args .answer .now) (c .before .before .before .before .before .before .before .before .before .before .before .before .before .before .before .before .before .before .before .before .args .k) (c .before .before .before .before .before .before .before .before .before .before .before .before .before .before .before .before .before .before .before .before .args .s) (c .before .before .before .before .before .before .before .before .before .before .before .before .before .before .before .before .before .before .before .before .args .o) (c .before .before .before .before .before .before .before .before .before .before .before .before .before .before .before .before .before .before .before .before .args .m) (c .before .before .before .before .before .before .before .before .before .before .before .before .before .before .before .before .before .before .before .before .args .v) (c .before .before .before .before .before .before .before .before .before .before .before .before .before .before .before .before .before .before .before .before .args .x) (le-ltb _ _ (c .before .before .before .before .before .before .before .before .before .before .before .before .before .before .before .before .before .if1 .left)) (sym (c .before .before .before .before .before .before .before .before .before .before .before .before .before .before .before .is-run .ensures) ∙ not-false _ (c .before .before .before .before .before .before .before .before .before .before .before .before .before .before .if2 .left)) _ (sym (c .before .before .before .before .before .before .before .before .before .before .before .before .before .event-of .ensures) ∙ c .before .before .before .before .before .before .before .before .before .before .before .made .given .1) (c .before .before .before .before .before .before .before .before .run-from .result) (c .before .before .before .before .before .before .before .before .run-from .ensures) (c .before .before .before .before .before .before .before .happens .result) (c .before .before .before .before .before .before .before .happens .ensures) _ (c .before .before .before .before .before .put-ran .ensures) _ (c .before .outcome .given .1)
+unfolding runCall
+returns-3 c = simp (le-ltb _ _ (c .before .before .before .before .before .before .before .before .before .before .before .before .before .before .before .before .before .if1 .left), sym (c .before .before .before .before .before .before .before .before .before .before .before .before .before .before .before .is-run .ensures) ∙ not-false _ (c .before .before .before .before .before .before .before .before .before .before .before .before .before .before .if2 .left), sym (c .before .before .before .before .before .before .before .before .before .before .before .before .before .event-of .ensures) ∙ c .before .before .before .before .before .before .before .before .before .before .before .made .given .1, ← c .before .before .before .before .before .before .before .before .run-from .ensures, ← c .before .before .before .before .before .before .before .happens .ensures) (called-refused (c .before .before .before .before .before .before .before .happens .result .outcome) (c .before .before .before .before .before .before .before .before .before .before .before .before .before .before .before .before .before .before .before .before .args .run .now) (runBytes (c .before .before .before .before .before .before .before .happens .result .run)) _ _ (c .before .before .before .before .before .put-ran .ensures) _ (c .before .outcome .given .1))
 
 put-run-requires : tie.Need-put-run-requires
 put-run-requires c κs = run-length _ (sym (c .before .before .before .before .before .before .before .before .before .before .before .before .before .before .before .is-run .ensures) ∙ not-false _ (c .before .before .before .before .before .before .before .before .before .before .before .before .before .before .if2 .left))
@@ -71,7 +74,8 @@ same-length-6 : tie.Need-same-length-6
 same-length-6 c = search needs
 
 returns-4 : tie.Need-returns-4
-returns-4 c = run-accepted (c .before .before .before .before .before .before .before .before .before .before .before .before .before .before .before .before .before .before .before .before .before .before .before .args .run .now) (c .before .before .before .before .before .before .before .before .before .before .before .before .before .before .before .before .before .before .before .before .before .before .before .args .answer .now) (c .before .before .before .before .before .before .before .before .before .before .before .before .before .before .before .before .before .before .before .before .before .before .before .args .k) (c .before .before .before .before .before .before .before .before .before .before .before .before .before .before .before .before .before .before .before .before .before .before .before .args .s) (c .before .before .before .before .before .before .before .before .before .before .before .before .before .before .before .before .before .before .before .before .before .before .before .args .o) (c .before .before .before .before .before .before .before .before .before .before .before .before .before .before .before .before .before .before .before .before .before .before .before .args .m) (c .before .before .before .before .before .before .before .before .before .before .before .before .before .before .before .before .before .before .before .before .before .before .before .args .v) (c .before .before .before .before .before .before .before .before .before .before .before .before .before .before .before .before .before .before .before .before .before .before .before .args .x) (le-ltb _ _ (c .before .before .before .before .before .before .before .before .before .before .before .before .before .before .before .before .before .before .before .before .if1 .left)) (sym (c .before .before .before .before .before .before .before .before .before .before .before .before .before .before .before .before .before .before .is-run .ensures) ∙ not-false _ (c .before .before .before .before .before .before .before .before .before .before .before .before .before .before .before .before .before .if2 .left)) _ (sym (c .before .before .before .before .before .before .before .before .before .before .before .before .before .before .before .before .event-of .ensures) ∙ c .before .before .before .before .before .before .before .before .before .before .before .before .before .before .made .given .1) (c .before .before .before .before .before .before .before .before .before .before .before .run-from .result) (c .before .before .before .before .before .before .before .before .before .before .before .run-from .ensures) (c .before .before .before .before .before .before .before .before .before .before .happens .result) (c .before .before .before .before .before .before .before .before .before .before .happens .ensures) _ (c .before .before .before .before .before .before .before .before .put-ran .ensures) _ (c .before .before .before .before .before .match2 .keys2) (c .before .before .put-run .ensures)
+unfolding runCall
+returns-4 c = simp (le-ltb _ _ (c .before .before .before .before .before .before .before .before .before .before .before .before .before .before .before .before .before .before .before .before .if1 .left), sym (c .before .before .before .before .before .before .before .before .before .before .before .before .before .before .before .before .before .before .is-run .ensures) ∙ not-false _ (c .before .before .before .before .before .before .before .before .before .before .before .before .before .before .before .before .before .if2 .left), sym (c .before .before .before .before .before .before .before .before .before .before .before .before .before .before .before .before .event-of .ensures) ∙ c .before .before .before .before .before .before .before .before .before .before .before .before .before .before .made .given .1, ← c .before .before .before .before .before .before .before .before .before .before .before .run-from .ensures, ← c .before .before .before .before .before .before .before .before .before .before .happens .ensures) (called-accepted (c .before .before .before .before .before .before .before .before .before .before .happens .result .outcome) (c .before .before .before .before .before .before .before .before .before .before .before .before .before .before .before .before .before .before .before .before .before .before .before .args .run .now) (runBytes (c .before .before .before .before .before .before .before .before .before .before .happens .result .run)) _ _ (c .before .before .before .before .before .before .before .before .put-ran .ensures) _ (c .before .before .put-run .ensures) (c .before .before .before .before .before .match2 .keys2))
 
 same-length-7 : tie.Need-same-length-7
 same-length-7 c = search needs
@@ -80,7 +84,8 @@ same-length-8 : tie.Need-same-length-8
 same-length-8 c = search needs
 
 returns-5 : tie.Need-returns-5
-returns-5 c = run-bad (c .before .before .before .before .before .before .before .before .before .before .before .before .before .before .args .run .now) (c .before .before .before .before .before .before .before .before .before .before .before .before .before .before .args .answer .now) (c .before .before .before .before .before .before .before .before .before .before .before .before .before .before .args .k) (c .before .before .before .before .before .before .before .before .before .before .before .before .before .before .args .s) (c .before .before .before .before .before .before .before .before .before .before .before .before .before .before .args .o) (c .before .before .before .before .before .before .before .before .before .before .before .before .before .before .args .m) (c .before .before .before .before .before .before .before .before .before .before .before .before .before .before .args .v) (c .before .before .before .before .before .before .before .before .before .before .before .before .before .before .args .x) (le-ltb _ _ (c .before .before .before .before .before .before .before .before .before .before .before .if1 .left)) (sym (c .before .before .before .before .before .before .before .before .before .is-run .ensures) ∙ not-false _ (c .before .before .before .before .before .before .before .before .if2 .left)) _ _ _ (c .before .before .refuse2 .ensures .0) (c .before .before .refuse2 .ensures .1) (sym (c .before .before .before .before .before .before .before .event-of .ensures) ∙ c .before .before .before .before .before .made2 .given .1)
+unfolding runCall
+returns-5 c = simp (le-ltb _ _ (c .before .before .before .before .before .before .before .before .before .before .before .if1 .left), sym (c .before .before .before .before .before .before .before .before .before .is-run .ensures) ∙ not-false _ (c .before .before .before .before .before .before .before .before .if2 .left), sym (c .before .before .before .before .before .before .before .event-of .ensures) ∙ c .before .before .before .before .before .made2 .given .1, c .before .before .refuse2 .ensures .0, c .before .before .refuse2 .ensures .1)
 
 pub fj-run-event-spec : {M : Type 1} → statement M
 fj-run-event-spec =

@@ -1,8 +1,12 @@
 -- `embed::run_calls::fj_run_fresh` meets its contract.
 -- Assumes nothing.
+use mathlib.Core.Path.{_≡_, refl, sym, ap, _∙_}
 use borrow.Author.Tests.{eq-eqb, ne-eqb}
-use Rattle.embed.specs.RunCalls.{freshCall}
-use Rattle.embed.proofs.RunCalls.{fresh-refused, fresh-accepted}
+use Prim.Native.Nat.{ℕ}
+use Rattle.site.specs.declared.Outcome.{Outcome}
+use Rattle.embed.specs.Bytes.{refusalOf, leaves}
+use Rattle.embed.specs.RunCalls.{runBytes, freshCall}
+use Rattle.embed.proofs.Calls.{accepted-zero}
 use borrow.Author.Needs.{needs}
 use Rattle.embed.proofs.run_calls.fj_run_fresh.Statement.{statement}
 use Rattle.embed.proofs.run_calls.fj_run_fresh.Tie as tie
@@ -24,13 +28,15 @@ same-length : tie.Need-same-length
 same-length c = search needs
 
 returns-2 : tie.Need-returns-2
-returns-2 c = fresh-refused (c .before .before .before .before .before .before .before .before .before .before .before .args .n) (c .before .before .before .before .before .before .before .before .before .before .before .args .run .now) (c .before .before .before .before .before .put-run .last .0) (c .before .before .before .before .before .before .before .before .fresh .result) (c .before .before .before .before .before .before .before .before .fresh .ensures) (eq-eqb _ _ (c .before .before .before .before .before .before .before .before .before .if1 .left)) (c .before .before .before .before .before .put-run .ensures) _ (c .before .outcome .given .1)
+unfolding freshCall
+returns-2 c = simp (eq-eqb _ _ (c .before .before .before .before .before .before .before .before .before .if1 .left), ← c .before .before .before .before .before .before .before .before .fresh .ensures, c .before .before .before .before .before .put-run .ensures) (ap (λ (o : Outcome). leaves (refusalOf o) (runBytes (c .before .before .before .before .before .before .before .before .fresh .result .run))) (sym (c .before .outcome .given .1)))
 
 same-length-2 : tie.Need-same-length-2
 same-length-2 c = search needs
 
 returns-3 : tie.Need-returns-3
-returns-3 c = fresh-accepted (c .before .before .before .before .before .before .before .before .before .args .n) (c .before .before .before .before .before .before .before .before .before .args .run .now) (c .before .before .before .put-run .last .0) (c .before .before .before .before .before .before .fresh .result) (c .before .before .before .before .before .before .fresh .ensures) (eq-eqb _ _ (c .before .before .before .before .before .before .before .if1 .left)) (c .before .before .before .put-run .ensures) (c .match .keys2)
+unfolding freshCall
+returns-3 c = simp (eq-eqb _ _ (c .before .before .before .before .before .before .before .if1 .left), ← c .before .before .before .before .before .before .fresh .ensures, c .before .before .before .put-run .ensures) (ap (λ (r : ℕ). leaves r (runBytes (c .before .before .before .before .before .before .fresh .result .run))) (accepted-zero (c .before .before .before .before .before .before .fresh .result .outcome) (c .match .keys2)))
 
 pub fj-run-fresh-spec : {M : Type 1} → statement M
 fj-run-fresh-spec =

@@ -5,7 +5,7 @@ use mathlib.Core.Path.{_≡_, refl, sym, ap, _∙_}
 use native.Mathlib.Omega.{arith}
 use lib.ListN.{length, length-set, length-take, length-drop}
 use Rattle.embed.proofs.Parts.{length-mapped}
-use Rattle.embed.proofs.RunCalls.{sited-length, run-written, run-bytes-length}
+use Rattle.embed.proofs.RunBytes.{sited-length, run-written, run-bytes-length}
 use borrow.Author.Needs.{needs}
 use Rattle.embed.proofs.run_calls.put_run.Statement.{statement}
 use Rattle.embed.proofs.run_calls.put_run.Tie as tie

@@ -11,13 +11,15 @@ use native.Mathlib.Omega.{arith}
 use native.Mathlib.Nat.{le-of-eq}
 use mathlib.Core.List.{flatMap}
 use Rattle.site.specs.declared.Site.{Site}
-use Rattle.embed.proofs.Parts.{sitesFront, sites-more, length-sites}
+use Rattle.run.specs.Run.{noSite}
+use Rattle.embed.proofs.Parts.{written, written-more, length-written}
+use Rattle.embed.proofs.RunBytes.{site-wide}
 use Rattle.embed.specs.Bytes.{siteBytes}
 use Rattle.embed.proofs.run_calls.put_sites.Statement.{statement}
 use Rattle.embed.proofs.run_calls.put_sites.Tie as tie
 
 abbrev Inv-loop : tie.InvT-loop
-Inv-loop bytes₀ sites i₀ bytes i = (i ≤ 8) × (bytes ≡ sitesFront bytes₀ sites i)
+Inv-loop bytes₀ sites i₀ bytes i = (i ≤ 8) × (bytes ≡ written siteBytes 8 bytes₀ sites i)
 
 abbrev μ-loop : tie.MeasureT-loop
 μ-loop bytes₀ sites i₀ bytes i = 8 - i
@@ -38,13 +40,13 @@ array-copy-out-site c = omega arith
 sub-put-site : tie.Need-sub-put-site Inv-loop μ-loop
 sub-put-site c =
     let h : length (c .before .before .before .before .args .t2) ≡ 8 = search needs in
-    let e = ap length (c .before .before .loop .inv .1) ∙ length-sites (c .before .before .before .before .args .bytes .now) (c .before .before .before .before .args .t2) (c .before .before .loop .i) (omega arith) (omega (arith, c .before .before .before .before .pre)) in
+    let e = ap length (c .before .before .loop .inv .1) ∙ length-written siteBytes 8 site-wide (c .before .before .before .before .args .bytes .now) (c .before .before .before .before .args .t2) (c .before .before .loop .i) (omega arith) (omega (arith, c .before .before .before .before .pre)) in
     omega (arith, e, c .before .before .before .before .pre)
 
 part-put-site-start : tie.Need-part-put-site-start Inv-loop μ-loop
 part-put-site-start c =
     let h : length (c .before .before .before .before .args .t2) ≡ 8 = search needs in
-    let e = ap length (c .before .before .loop .inv .1) ∙ length-sites (c .before .before .before .before .args .bytes .now) (c .before .before .before .before .args .t2) (c .before .before .loop .i) (omega arith) (omega (arith, c .before .before .before .before .pre)) in
+    let e = ap length (c .before .before .loop .inv .1) ∙ length-written siteBytes 8 site-wide (c .before .before .before .before .args .bytes .now) (c .before .before .before .before .args .t2) (c .before .before .loop .i) (omega arith) (omega (arith, c .before .before .before .before .pre)) in
     omega (arith, e, c .before .before .before .before .pre)
 
 part-put-site-end : tie.Need-part-put-site-end Inv-loop μ-loop
@@ -53,7 +55,7 @@ part-put-site-end c = search needs
 put-site-requires : tie.Need-put-site-requires Inv-loop μ-loop
 put-site-requires c κs =
     let h : length (c .before .before .before .before .before .args .t2) ≡ 8 = search needs in
-    let e = ap length (c .before .before .before .loop .inv .1) ∙ length-sites (c .before .before .before .before .before .args .bytes .now) (c .before .before .before .before .before .args .t2) (c .before .before .before .loop .i) (omega arith) (omega (arith, c .before .before .before .before .before .pre)) in
+    let e = ap length (c .before .before .before .loop .inv .1) ∙ length-written siteBytes 8 site-wide (c .before .before .before .before .before .args .bytes .now) (c .before .before .before .before .before .args .t2) (c .before .before .before .loop .i) (omega arith) (omega (arith, c .before .before .before .before .before .pre)) in
     simp (length-take, length-drop) (omega (arith, e, c .before .before .before .before .before .pre))
 
 add-i : tie.Need-add-i Inv-loop μ-loop
@@ -65,18 +67,18 @@ loop-less c = omega arith
 loop-again : tie.Need-loop-again Inv-loop μ-loop
 loop-again c =
     let h : length (c .before .before .before .before .before .before .before .before .args .t2) ≡ 8 = search needs in
-    (omega arith, sites-more (c .before .before .before .before .before .before .before .before .args .bytes .now) (c .before .before .before .before .before .before .before .before .args .t2) (c .before .before .before .before .before .before .loop .i) (omega arith) (c .before .before .before .before .before .before .loop .bytes) (c .before .before .put-site .last .0) (c .before .before .before .before .before .before .loop .inv .1) (c .before .before .put-site .ensures))
+    (omega arith, written-more siteBytes 8 site-wide noSite (c .before .before .before .before .before .before .before .before .args .bytes .now) (c .before .before .before .before .before .before .before .before .args .t2) (c .before .before .before .before .before .before .loop .i) (omega arith) (c .before .before .before .before .before .before .loop .bytes) (c .before .before .put-site .last .0) (c .before .before .before .before .before .before .loop .inv .1) (c .before .before .put-site .ensures))
 
 same-length : tie.Need-same-length Inv-loop μ-loop
 same-length c =
     let h : length (c .before .before .before .args .t2) ≡ 8 = search needs in
-    ap length (c .before .loop .inv .1) ∙ length-sites (c .before .before .before .args .bytes .now) (c .before .before .before .args .t2) (c .before .loop .i) (omega arith) (omega (arith, c .before .before .before .pre))
+    ap length (c .before .loop .inv .1) ∙ length-written siteBytes 8 site-wide (c .before .before .before .args .bytes .now) (c .before .before .before .args .t2) (c .before .loop .i) (omega arith) (omega (arith, c .before .before .before .pre))
 
 returns : tie.Need-returns Inv-loop μ-loop
 returns c =
     let h : length (c .before .before .before .args .t2) ≡ 8 = search needs in
     let e : c .before .loop .i ≡ 8 = omega arith in
-    c .before .loop .inv .1 ∙ ap (sitesFront (c .before .before .before .args .bytes .now) (c .before .before .before .args .t2)) e
+    c .before .loop .inv .1 ∙ ap (written siteBytes 8 (c .before .before .before .args .bytes .now) (c .before .before .before .args .t2)) e
     ∙ ap (λ (x : List Site). flatMap siteBytes x ++ drop 64 (c .before .before .before .args .bytes .now)) (take-all 8 (c .before .before .before .args .t2) (le-of-eq h))
 
 pub put-sites-spec : {M : Type 1} → statement M

@@ -1,0 +1,114 @@
+// Protocol sheets on bytes: the judge's verdict, and the report.
+
+ghost use mathlib.Core.Path.{_≡_};
+ghost use mathlib.Core.List.{_++_, flatMap};
+ghost use Prim.Native.Nat.{_≤_, _%_};
+ghost use lib.ListN.{length, drop};
+ghost use Rattle.report.specs.Report.{Reported};
+ghost use Rattle.embed.specs.SheetCalls.{flagOf, flagsOf, localBytes, headBytes, verdictBytes, JudgeCall};
+
+use judge::{Local, Verdict};
+
+fn low_byte(x: u64) -> u8
+    ensures { λ r. ⌜ r ≡ x % 256 ⌝ }
+{
+    (x % 256) as u8
+}
+
+fn flag(b: bool) -> u8
+    ensures { λ r. ⌜ r ≡ flagOf b ⌝ }
+{
+    if b { 1 } else { 0 }
+}
+
+fn flags(reached: bool, committable: bool) -> u8
+    ensures { λ r. ⌜ r ≡ flagsOf reached committable ⌝ }
+{
+    if reached {
+        if committable {
+            return 3;
+        }
+        return 1;
+    }
+    if committable {
+        return 2;
+    }
+    0
+}
+
+// A local state's bytes, put at the front of a part.
+fn put_local(part: &mut [u8], local: Local)
+    requires { ⌜ 6 ≤ length (now part) ⌝ }
+    ensures { λ _. ⌜ now (part .exit) ≡ localBytes local ++ drop 6 (now (part .entry)) ⌝ }
+{
+    let set = local.concurrent;
+    part[0] = flags(local.reached, local.committable);
+    part[1] = local.decision;
+    part[2] = low_byte(set / 16777216);
+    part[3] = low_byte(set / 65536);
+    part[4] = low_byte(set / 256);
+    part[5] = low_byte(set);
+}
+
+fn put_locals(part: &mut [u8], locals: [Local; 32])
+    requires { ⌜ 192 ≤ length (now part) ⌝ }
+    ensures { λ _. ⌜ now (part .exit) ≡ flatMap localBytes locals ++ drop 192 (now (part .entry)) ⌝ }
+{
+    for i in 0..32 {
+        let at = 6 * i;
+        let local = locals[i];
+        put_local(&mut part[at..], local);
+    }
+}
+
+// What a verdict says of the whole sheet, put at the front.
+fn put_head(out: &mut [u8], verdict: Verdict)
+    requires { ⌜ 14 ≤ length (now out) ⌝ }
+    ensures { λ _. ⌜ now (out .exit) ≡ headBytes verdict ++ drop 14 (now (out .entry)) ⌝ }
+{
+    let states = verdict.states as u64;
+    out[0] = verdict.sites;
+    out[1] = low_byte(states / 256);
+    out[2] = low_byte(states);
+    out[3] = flag(verdict.nonblocking);
+    out[4] = verdict.site;
+    out[5] = verdict.state;
+    out[6] = verdict.condition;
+    out[7] = verdict.tolerance;
+    out[8] = 0;
+    out[9] = 0;
+    out[10] = 0;
+    out[11] = 0;
+    out[12] = 0;
+    out[13] = 0;
+}
+
+fn put_verdict(out: &mut [u8], verdict: Verdict)
+    requires { ⌜ 206 ≤ length (now out) ⌝ }
+    ensures { λ _. ⌜ now (out .exit) ≡ verdictBytes verdict ++ drop 206 (now (out .entry)) ⌝ }
+{
+    let locals = verdict.locals;
+    put_head(out, verdict);
+    put_locals(&mut out[14..], locals);
+}
+
+// The judge's verdict on a sheet, and the reachable states in the lent words. Returns 0 or the refusal.
+#[no_mangle]
+pub extern "C" fn fj_sheet_judge(sheet: &[u8], words: &mut [u64], out: &mut [u8]) -> u8
+    ensures { λ r. ⌜ JudgeCall (now (sheet .entry)) (now (words .entry)) (now (words .exit)) (now (out .entry)) (now (out .exit)) r ⌝ }
+{
+    if out.len() < 206 {
+        return 15;
+    }
+    let verdict = judge::judge(sheet, words);
+    put_verdict(out, verdict);
+    verdict.refusal
+}
+
+// The report on a sheet, with the words as the judge leaves them. Returns the text's length, 0 where the room is too small.
+#[no_mangle]
+pub extern "C" fn fj_sheet_report(sheet: &[u8], words: &mut [u64], text: &mut [u8]) -> usize
+    ensures { λ r. ⌜ Reported (now (sheet .entry)) (now (words .entry)) (now (words .exit)) (now (text .entry)) (now (text .exit)) r ⌝ }
+{
+    report::report(sheet, words, text)
+}

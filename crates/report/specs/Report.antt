@@ -1,0 +1,109 @@
+-- The report on a sheet (01, "The sheet program reads a sheet"): every byte that is printed.
+-- Assumes nothing.
+use Prim.Native.Nat.{ℕ, zero, suc, _+_, _/_, _%_, _≤_, _<_}
+use mathlib.Core.Bool.{Bool, cond}
+use mathlib.Core.List.{List, [], _∷_, _++_}
+use mathlib.Core.Path.{_≡_}
+use lib.Dec.{eqb, ltb}
+use lib.ListN.{length, getD, drop}
+use Rattle.text.specs.Said.{said}
+use Rattle.text.specs.Decimal.{decimal}
+use Rattle.sets.specs.Sets.{bit}
+use Rattle.sheet.specs.Grounds.{readOf}
+use Rattle.sheet.specs.declared.Sheet.{Sheet}
+use Rattle.judge.specs.Facts.{stands, markOf, noLocal}
+use Rattle.judge.specs.Outcome.{Outcome}
+use Rattle.judge.specs.declared.Local.{Local}
+use Rattle.judge.specs.declared.Verdict.{Verdict}
+
+-- pieces one after another
+unfoldable pub joined : List (List ℕ) → List ℕ
+joined [] = []
+joined (p ∷ ps) = p ++ joined ps
+
+-- a piece for each number below k, made with the text before it at hand
+unfoldable pub upTo : (ℕ → List ℕ → List ℕ) → ℕ → List ℕ
+upTo f zero = []
+upTo f (suc q) = upTo f q ++ f q (upTo f q)
+
+-- ---- a line for each state: "site.state, mark (w, a, c), reached, set (or `-`), committable, decision"
+
+-- site.state
+unfoldable pub nameOf : ℕ → List ℕ
+nameOf p = joined (decimal (p / 8 + 1) ∷ said "." ∷ decimal (p % 8) ∷ [])
+
+unfoldable pub markWord : ℕ → List ℕ
+markWord mark = cond (eqb mark 0) (said " w ") (cond (eqb mark 1) (said " a ") (said " c "))
+
+unfoldable pub yesWord : Bool → List ℕ
+yesWord b = cond b (said "y ") (said "n ")
+
+unfoldable pub decisionWord : ℕ → List ℕ
+decisionWord d = cond (eqb d 0) (said "-\n") (cond (eqb d 1) (said "abort\n") (cond (eqb d 2) (said "commit\n") (said "blocked\n")))
+
+-- a member of a set, after a comma where others stand before it
+unfoldable pub memberOf : Bool → ℕ → List ℕ
+memberOf later q = cond later (joined (said "," ∷ nameOf q ∷ [])) (nameOf q)
+
+-- q, where it is a member
+unfoldable pub memberIn : ℕ → ℕ → Bool → List ℕ
+memberIn m q later = cond (bit m q) (memberOf later q) []
+
+-- the members below 32, ascending by site, then state
+abbrev pub membersOf : ℕ → List ℕ
+membersOf m = upTo (λ q before. memberIn m q (ltb 0 (length before))) 32
+
+unfoldable pub setWord : ℕ → List ℕ
+setWord m = cond (eqb m 0) (said "-") (membersOf m)
+
+unfoldable pub lineOf : ℕ → ℕ → Local → List ℕ
+lineOf p mark l =
+    joined
+    (nameOf p ∷ markWord mark ∷ yesWord (l .reached) ∷ setWord (l .concurrent) ∷ said " " ∷ yesWord (l .committable) ∷ decisionWord (l .decision) ∷ [])
+
+-- the line of p, where the sheet has that state
+unfoldable pub lineIn : Sheet → List Local → ℕ → List ℕ
+lineIn s l p = cond (stands s p) (lineOf p (markOf s p) (getD l p noLocal)) []
+
+-- the lines of all its states
+abbrev pub linesOf : Sheet → List Local → List ℕ
+linesOf s l = upTo (λ p before. lineIn s l p) 32
+
+-- ---- the other lines
+
+-- "First line: sites, reachable global states"
+unfoldable pub headLine : ℕ → ℕ → List ℕ
+headLine sites states = joined (said "sheet " ∷ decimal sites ∷ said " sites " ∷ decimal states ∷ said " states\n" ∷ [])
+
+unfoldable pub blockingLine : ℕ → ℕ → ℕ → List ℕ
+blockingLine site state condition =
+    joined (said "verdict blocking at " ∷ decimal site ∷ said "." ∷ decimal state ∷ said " condition " ∷ decimal condition ∷ said "\n" ∷ [])
+
+unfoldable pub rulingLine : Verdict → List ℕ
+rulingLine v = cond (v .nonblocking) (said "verdict nonblocking\n") (blockingLine (v .site) (v .state) (v .condition))
+
+unfoldable pub toleranceLine : ℕ → List ℕ
+toleranceLine t = joined (said "tolerance " ∷ decimal t ∷ said "\n" ∷ [])
+
+-- "a refused one `refused N` only"
+unfoldable pub refusedLine : ℕ → List ℕ
+refusedLine ground = joined (said "refused " ∷ decimal ground ∷ said "\n" ∷ [])
+
+-- ---- the whole
+
+unfoldable pub acceptedText : Sheet → Verdict → List ℕ
+acceptedText s v =
+    joined (headLine (v .sites) (v .states) ∷ linesOf s (v .locals) ∷ rulingLine v ∷ toleranceLine (v .tolerance) ∷ [])
+
+unfoldable pub textOf : Sheet → Verdict → List ℕ
+textOf s v = cond (eqb (v .refusal) 0) (acceptedText s v) (refusedLine (v .refusal))
+
+-- The longest text has 3,722 bytes: a first line of at most 26, for each of 32 states one of at most 114 (24 states of other sites in its
+-- set), a verdict of at most 36 and a tolerance of at most 12.
+
+-- what is left of bytes, words and room: with less room than the longest text nothing is touched and the answer is 0; else the sheet is
+-- judged, its text stands at the start, the rest of the room is unchanged, and the answer is the length
+pub data Reported (bytes w₀ w t₀ t : List ℕ) (r : ℕ) : Type 0 where
+  cramped : length t₀ < 3722 → w ≡ w₀ → t ≡ t₀ → r ≡ 0 → Reported bytes w₀ w t₀ t r
+  told : 3722 ≤ length t₀ → (v : Verdict) → Outcome bytes w₀ w v → r ≡ length (textOf (readOf bytes .sheet) v)
+      → t ≡ textOf (readOf bytes .sheet) v ++ drop r t₀ → Reported bytes w₀ w t₀ t r

@@ -1,0 +1,32 @@
+// The report on a protocol sheet, as text in lent bytes (01, "The sheet program reads a sheet").
+ghost use mathlib.Core.Path.{_≡_};
+ghost use Prim.Native.Nat.{_+_, _≤_, _<_};
+ghost use lib.ListN.{length};
+ghost use Rattle.text.specs.Text.{Put};
+ghost use Rattle.report.specs.Report.{Reported};
+
+mod line;
+
+use judge::Verdict;
+use sheet::Sheet;
+
+// The longest text: see specs/Report.antt.
+const LONGEST: usize = 3722;
+
+// Judges the sheet in `bytes` and writes the report on it at the start of `out`; answers its length. Where `out` has less room than the longest
+// text, nothing is touched and the answer is 0.
+pub fn report(bytes: &[u8], words: &mut [u64], out: &mut [u8]) -> usize
+    ensures { λ r. ⌜ Reported (now (bytes .entry)) (now (words .entry)) (now (words .exit)) (now (out .entry)) (now (out .exit)) r ⌝ }
+{
+    if out.len() < LONGEST {
+        return 0;
+    }
+    let verdict = judge::judge(bytes, words);
+    let ground = verdict.refusal;
+    if ground != 0 {
+        return line::put_refused(out, ground);
+    }
+    let read = sheet::read(bytes);
+    let sheet = read.sheet;
+    line::put_accepted(out, sheet, verdict)
+}

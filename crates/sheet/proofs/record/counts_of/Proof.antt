@@ -1,0 +1,33 @@
+-- `counts_of` meets its contract: the four counts in their order.
+-- Assumes nothing.
+use Rattle.sheet.specs.Index.{table}
+use Rattle.sheet.specs.Record.{countsOf}
+use borrow.Author.Needs.{needs}
+use Rattle.sheet.proofs.record.counts_of.Statement.{statement}
+use Rattle.sheet.proofs.record.counts_of.Tie as tie
+
+count-of-requires : tie.Need-count-of-requires
+count-of-requires c κs = search needs
+
+count-of-requires-2 : tie.Need-count-of-requires-2
+count-of-requires-2 c κs = search needs
+
+count-of-requires-3 : tie.Need-count-of-requires-3
+count-of-requires-3 c κs = search needs
+
+count-of-requires-4 : tie.Need-count-of-requires-4
+count-of-requires-4 c κs = search needs
+
+returns : tie.Need-returns
+unfolding table countsOf
+returns c = simp (c .before .before .before .count-of .ensures, c .before .before .count-of2 .ensures, c .before .count-of3 .ensures, c .count-of4 .ensures)
+
+pub counts-of-spec : {M : Type 1} → statement M
+counts-of-spec =
+    tie.close
+    (tie.spec
+    count-of-requires
+    count-of-requires-2
+    count-of-requires-3
+    count-of-requires-4
+    returns)

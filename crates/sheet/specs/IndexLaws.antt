@@ -1,0 +1,133 @@
+-- Laws of any, sum and table: what a search loop and a filling loop have at each turn and at their end.
+-- Assumes nothing.
+use Prim.Native.Nat.{ℕ, zero, suc, _+_, _≤_, _<_}
+use mathlib.Core.Bool.{Bool, true, false, _&&_, _||_, false≢true, or-true}
+use mathlib.Core.List.{List, [], _∷_, _++_}
+use mathlib.Core.Path.{_≡_, refl, sym, ap, ap₂, _∙_}
+use native.Mathlib.Decide.{ℕ-discrete}
+use native.Mathlib.Numerals.{add-one}
+use native.Mathlib.Omega.{arith}
+use lib.ListN.{length, getD, set, length-set, length-append, List·getD-append}
+use lib.Seq.{getD-set-same, getD-set-other, getD-at, ext-getD}
+use Rattle.sheet.specs.Index.{any, sum, table}
+
+or-left : (a b : Bool) → a ≡ true → (a || b) ≡ true
+or-left true b e = refl
+or-left false b e = absurd (false≢true e)
+
+-- both halves of what holds, and of what does not
+pub and-true : (a b : Bool) → (a && b) ≡ true → (a ≡ true) × (b ≡ true)
+and-true true b e = (refl, e)
+and-true false b e = absurd (false≢true e)
+
+pub or-neither : (a b : Bool) → (a || b) ≡ false → (a ≡ false) × (b ≡ false)
+or-neither true b e = absurd (false≢true (sym e))
+or-neither false b e = (refl, e)
+
+-- a number that passes is found
+pub any-found : (f : ℕ → Bool) (n k : ℕ) → k < n → f k ≡ true → any f n ≡ true
+unfolding any
+any-found f zero k h e = absurd (omega arith)
+any-found f (suc n) k h e = go (λ l. any-found f n k l e) (ℕ-discrete k n)
+  where
+    go : (k < n → any f n ≡ true) → Dec (k ≡ n) → (any f n || f n) ≡ true
+    go r (yes q) = ap (λ (b : Bool). any f n || b) (ap f (sym q) ∙ e) ∙ or-true (any f n)
+    go r (no q) = or-left (any f n) (f n) (r (omega arith))
+
+-- where nothing is found, no number passes
+pub any-at : (f : ℕ → Bool) (n k : ℕ) → any f n ≡ false → k < n → f k ≡ false
+any-at f n k e h = go (f k) refl
+  where
+    go : (b : Bool) → f k ≡ b → f k ≡ false
+    go false p = p
+    go true p = absurd (false≢true (sym e ∙ any-found f n k h p))
+
+-- a number below n that passes
+pub record Found (f : ℕ → Bool) (n : ℕ) : Type 0 where
+  pub place : ℕ
+  pub below : place < n
+  pub passes : f place ≡ true
+
+pub any-some : (f : ℕ → Bool) (n : ℕ) → any f n ≡ true → Found f n
+unfolding any
+any-some f zero e = absurd (false≢true e)
+any-some f (suc n) e = go (any-some f n) (f n) refl (any f n) refl
+  where
+    go : (any f n ≡ true → Found f n) → (b : Bool) → f n ≡ b → (a : Bool) → any f n ≡ a → Found f (suc n)
+    go before true p a q = record { place = n; below = omega arith; passes = p }
+    go before false p true q =
+        let r : Found f n = before q in
+        record { place = r .place; below = omega (arith, r .below); passes = r .passes }
+    go before false p false q = absurd (false≢true (sym (ap₂ (λ (x y : Bool). x || y) q p) ∙ e))
+
+-- a search below n that has passed i numbers and found nothing
+pub record Unfound (f : ℕ → Bool) (n i : ℕ) : Type 0 where
+  pub within : i ≤ n
+  pub none : any f i ≡ false
+
+pub search-begins : (f : ℕ → Bool) (n : ℕ) → Unfound f n 0
+unfolding any
+search-begins f n = record { within = omega arith; none = refl }
+
+pub search-goes-on : {f : ℕ → Bool} {n i : ℕ} → Unfound f n i → i < n → f i ≡ false → Unfound f n (i + 1)
+unfolding any
+search-goes-on {f} {n} {i} u h e =
+    record { within = omega arith; none = ap (any f) (add-one i) ∙ ap₂ (λ (a b : Bool). a || b) (u .none) e }
+
+pub search-ends : {f : ℕ → Bool} {n i : ℕ} → Unfound f n i → n ≤ i → any f n ≡ false
+search-ends {f} {n} {i} u h = ap (any f) (omega (arith, u .within)) ∙ u .none
+
+-- two tests that agree below n find the same
+pub any-same : (f g : ℕ → Bool) (n : ℕ) → ((k : ℕ) → k < n → f k ≡ g k) → any f n ≡ any g n
+unfolding any
+any-same f g zero h = refl
+any-same f g (suc n) h =
+    ap₂ (λ (a b : Bool). a || b) (any-same f g n (λ k l. h k (omega arith))) (h n (omega arith))
+
+pub sum-none : (f : ℕ → ℕ) → sum f 0 ≡ 0
+unfolding sum
+sum-none f = refl
+
+pub sum-more : (f : ℕ → ℕ) (n : ℕ) → sum f (n + 1) ≡ sum f n + f n
+unfolding sum
+sum-more f n = ap (sum f) (add-one n)
+
+module _ {A : Type 0} where
+  pub length-table : (f : ℕ → A) (n : ℕ) → length (table f n) ≡ n
+  unfolding table
+  length-table f zero = refl
+  length-table f (suc n) = length-append (table f n) (f n ∷ []) ∙ omega (arith, length-table f n)
+
+  pub table-at : (f : ℕ → A) (n k : ℕ) (d : A) → k < n → getD (table f n) k d ≡ f k
+  unfolding table
+  table-at f zero k d h = absurd (omega arith)
+  table-at f (suc n) k d h = go (table-at f n k d) (ℕ-discrete k n)
+    where
+      go : (k < n → getD (table f n) k d ≡ f k) → Dec (k ≡ n) → getD (table f n ++ (f n ∷ [])) k d ≡ f k
+      go before (yes q) = getD-at (table f n) (f n) [] d k (length-table f n ∙ sym q) ∙ ap f (sym q)
+      go before (no q) =
+          let l : k < length (table f n) = omega (arith, length-table f n) in
+          List·getD-append (table f n) (f n ∷ []) d k l ∙ before (omega arith)
+
+  -- a list of m places, the first n of which hold what f gives
+  pub record Filled (f : ℕ → A) (d : A) (m n : ℕ) (l : List A) : Type 0 where
+    pub within : n ≤ m
+    pub long : length l ≡ m
+    pub at : (k : ℕ) → k < n → getD l k d ≡ f k
+
+  pub filling-begins : (f : ℕ → A) (d : A) (m : ℕ) (l : List A) → length l ≡ m → Filled f d m 0 l
+  filling-begins f d m l e = record { within = omega arith; long = e; at = λ k h. absurd (omega arith) }
+
+  pub filling-goes-on : {f : ℕ → A} {d : A} {m n : ℕ} {l : List A} {v : A} → Filled f d m n l → n < m → v ≡ f n → Filled f d m (n + 1) (set l n v)
+  filling-goes-on {f} {d} {m} {n} {l} {v} r h e =
+      record { within = omega arith; long = length-set l n v ∙ r .long; at = λ k b. go k b (ℕ-discrete k n) }
+    where
+      go : (k : ℕ) → k < n + 1 → Dec (k ≡ n) → getD (set l n v) k d ≡ f k
+      go k b (yes q) =
+          ap (λ (x : ℕ). getD (set l n v) x d) q ∙ getD-set-same l n v d (omega (arith, r .long)) ∙ e ∙ ap f (sym q)
+      go k b (no q) = getD-set-other l n k v d q ∙ r .at k (omega arith)
+
+  pub filling-ends : {f : ℕ → A} {d : A} {m n : ℕ} {l : List A} → Filled f d m n l → m ≤ n → l ≡ table f m
+  filling-ends {f} {d} {m} {n} {l} r h =
+      ext-getD d l (table f m) (r .long ∙ sym (length-table f m))
+      (λ k b. r .at k (omega (arith, r .long)) ∙ sym (table-at f m k d (omega (arith, r .long))))

@@ -1,0 +1,85 @@
+// Protocol sheets (01, "Protocol sheets"): the record, its parts, and the reader with grounds 21 to 29.
+// The reader knows nothing of what a sheet is judged by. The grounds from 25 on are stated over the parts alone.
+ghost use mathlib.Core.Path.{_≡_};
+ghost use Rattle.sheet.specs.Record.{noTransition, noSheet};
+ghost use Rattle.sheet.specs.Grounds.{readOf};
+ghost use Rattle.sheet.specs.Fine.{Fine};
+
+mod record; // record.rt: the parts of a record
+mod frame; // frame.rt: grounds 21 to 24, about the bytes
+mod grounds; // grounds.rt: grounds 25 to 29, about the parts
+mod cycle; // cycle.rt: the search for a cycle
+
+// A transition of one site (01, "Protocol sheets"): messages are masks below 2^32, message m at weight 2^m.
+pub struct Transition {
+    pub site: u8,
+    pub from: u8,
+    pub to: u8,
+    pub vote: u8,
+    pub reads: u64,
+    pub writes: u64,
+}
+
+// A protocol sheet's parts: number of sites, state counts, marks at 8 * (site - 1) + state, first messages,
+// number of transitions, transitions; what a sheet does not have is zero.
+pub struct Sheet {
+    pub sites: u8,
+    pub counts: [u8; 4],
+    pub marks: [u8; 32],
+    pub first: u64,
+    pub moves: usize,
+    pub transitions: [Transition; 64],
+}
+
+// The reader's answer: ground 21 to 29 and the empty sheet, or 0 and the parts.
+pub struct Sheeted {
+    pub refusal: u8,
+    pub sheet: Sheet,
+}
+
+// The sheet of a record, or the first ground against it.
+pub fn read(bytes: &[u8]) -> Sheeted
+    ensures { λ r. ⌜ r ≡ readOf (now (bytes .entry)) ⌝ }
+    ensures { λ r. ⌜ (r .refusal ≡ 0 → Fine (r .sheet)) ⌝ }
+{
+    let frame = frame::frame_ground(bytes);
+    if frame != 0 {
+        return refused(frame);
+    }
+    let sheet = record::parts(bytes);
+    let ground = grounds::parts_ground(sheet);
+    if ground != 0 {
+        return refused(ground);
+    }
+    Sheeted { refusal: 0, sheet }
+}
+
+// A refused answer: the ground, and no sheet.
+fn refused(refusal: u8) -> Sheeted
+    ensures { λ r. ⌜ (r .refusal ≡ refusal) × (r .sheet ≡ noSheet) ⌝ }
+{
+    let none = no_transition();
+    let sheet = Sheet {
+        sites: 0,
+        counts: [0; 4],
+        marks: [0; 32],
+        first: 0,
+        moves: 0,
+        transitions: [none; 64],
+    };
+    Sheeted { refusal, sheet }
+}
+
+// No transition: all fields zero.
+fn no_transition() -> Transition
+    ensures { λ r. ⌜ r ≡ noTransition ⌝ }
+{
+    Transition {
+        site: 0,
+        from: 0,
+        to: 0,
+        vote: 0,
+        reads: 0,
+        writes: 0,
+    }
+}
