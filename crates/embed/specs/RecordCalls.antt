@@ -5,9 +5,9 @@ use mathlib.Core.Bool.{cond}
 use mathlib.Core.List.{List, _++_}
 use lib.Dec.{ltb}
 use lib.ListN.{length, drop}
-use Rattle.run.specs.declared.fields.Made.{Made}
-use Rattle.run.specs.declared.fields.Made.the-variants as made
-use Rattle.run.specs.Fields.{body, fieldsFrom, eventFrom}
+use Rattle.fields.specs.declared.Made.{Made}
+use Rattle.fields.specs.declared.Made.the-variants as made
+use Rattle.fields.specs.Fields.{body, fieldsFrom, eventFrom}
 use Rattle.journal.specs.declared.Found.{Found}
 use Rattle.journal.specs.declared.Found.the-variants.{Good, Bad}
 use Rattle.journal.specs.Record.{bodyOf, readOf, refusalOf, placedOf}

@@ -9,9 +9,9 @@ use Rattle.run.specs.declared.Run.{Run}
 use Rattle.run.specs.declared.Ran.{Ran}
 use Rattle.run.specs.Sound.{every}
 use Rattle.run.specs.Event.{freshOf, eventOf}
-use Rattle.run.specs.declared.fields.Made.{Made}
-use Rattle.run.specs.declared.fields.Made.the-variants.{Good, Bad}
-use Rattle.run.specs.Fields.{body, eventFrom}
+use Rattle.fields.specs.declared.Made.{Made}
+use Rattle.fields.specs.declared.Made.the-variants.{Good, Bad}
+use Rattle.fields.specs.Fields.{body, eventFrom}
 use Rattle.embed.specs.Bytes.{siteBytes, siteFrom, outcomeByte, refusalOf, Left, leaves, LeftBoth, leavesBoth, called}
 
 -- ---- a run as bytes: n, stopped, eight site records, 72 bytes of network

@@ -8,9 +8,9 @@ use lib.ListN.{length, getD, drop}
 use Rattle.site.specs.declared.Answer.{Answer}
 use Rattle.site.specs.Step.{stepOf}
 use Rattle.run.specs.declared.Event.the-variants.{Act, Stop, Cut}
-use Rattle.run.specs.declared.fields.Made.{Made}
-use Rattle.run.specs.declared.fields.Made.the-variants as made
-use Rattle.run.specs.Fields.{body, eventFrom}
+use Rattle.fields.specs.declared.Made.{Made}
+use Rattle.fields.specs.declared.Made.the-variants as made
+use Rattle.fields.specs.Fields.{body, eventFrom}
 use Rattle.embed.specs.declared.site_calls.Told.{Told}
 use Rattle.embed.specs.declared.site_calls.Told.the-variants.{Good, Bad}
 use Rattle.embed.specs.Bytes.{siteBytes, siteFrom, outcomeByte, LeftBoth, leavesBoth, called}

@@ -8,8 +8,8 @@ ghost use Rattle.journal.specs.Record.{bodyOf};
 ghost use Rattle.embed.specs.Bytes.{leaves};
 ghost use Rattle.embed.specs.RecordCalls.{readCall, writeCall, rehearseCall};
 
+use fields::{event_of, fields_of, Fields, Made};
 use journal::Found;
-use run::fields::{event_of, fields_of, Fields, Made};
 
 // K S O M V X, put at the front of a part.
 fn put_fields(room: &mut [u8], f: Fields)

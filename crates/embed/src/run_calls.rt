@@ -8,7 +8,7 @@ ghost use Rattle.embed.specs.Bytes.{siteBytes, leaves, leavesBoth};
 ghost use Rattle.embed.specs.RunCalls.{isRun, runFrom, runBytes, freshCall, ranBytes, runCall};
 
 use crate::site_calls::{outcome_byte, put_site, site_from};
-use run::fields::{event_of, Fields, Made};
+use fields::{event_of, Fields, Made};
 use run::{Ran, Run};
 use site::{Outcome, Site};
 

@@ -7,7 +7,7 @@ ghost use lib.ListN.{length, drop};
 ghost use Rattle.embed.specs.Bytes.{stateByte, stateFrom, siteBytes, siteFrom, outcomeByte, leavesBoth};
 ghost use Rattle.embed.specs.SiteCall.{isRecord, stepTold, answerBytes, siteCall};
 
-use run::fields::{event_of, Fields, Made};
+use fields::{event_of, Fields, Made};
 use run::Event;
 use site::{Answer, Outcome, Site, State, Step};
 

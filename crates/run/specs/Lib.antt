@@ -2,7 +2,6 @@ pub mod Run
 pub mod Sound
 pub mod Event
 pub mod After
-pub mod Fields
 pub mod Ground
 pub mod RunLists
 pub mod Views
@@ -13,4 +12,3 @@ pub mod RunLaws
 pub mod Ordered
 pub mod GoodRuns
 pub mod Unordered
-pub mod FieldsLaws

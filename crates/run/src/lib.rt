@@ -18,7 +18,6 @@ use site::Site;
 use site::State;
 use site::Step;
 
-pub mod fields;
 mod net;
 
 // The network stands at 8 * (kind - 1) + sender - 1: the set of receivers for which that message is outstanding.

@@ -3,7 +3,7 @@
 use mathlib.Core.Path.{_∙_, sym, ap}
 use borrow.Author.Tests.{le-leb, lt-leb}
 use Rattle.run.specs.declared.Event.{Event}
-use Rattle.run.specs.declared.fields.Made.the-variants.{Good}
+use Rattle.fields.specs.declared.Made.the-variants.{Good}
 use Rattle.embed.specs.SiteCall.{stepTold}
 use borrow.Author.Needs.{needs}
 use Rattle.embed.proofs.site_calls.step_told.Statement.{statement}
