@@ -2,10 +2,13 @@
 // A step takes any record and any step. What it cannot accept it refuses with 01's number, and the record comes back as it was.
 
 ghost use mathlib.Core.Path.{_≡_};
+ghost use mathlib.Core.Bool.{_&&_};
+ghost use lib.Dec.{eqb, ltb};
+ghost use Rattle.sets.specs.Sets.{belowOf, subset};
 ghost use Rattle.site.specs.Site.{isQ, isW, isP, inState, soundOf, endsOf, toAll, inRun, namesOf, polls, collects, awaitedOf, refused, passed, taken};
 ghost use Rattle.site.specs.First.{beginOf, startOf, voteOf, tallyOf};
-ghost use Rattle.site.specs.Leader.{movePAt, moveWAt, commitAt, abortAt, orderAt, replied, obeyOf, ackOf, takeOverOf, settleOf};
-ghost use Rattle.site.specs.Step.{noticeOf, concludeOf, deliverOf, doneOf, kindOf, counted, countsOf, answered, stepOf, awaitedFirst};
+ghost use Rattle.site.specs.Leader.{movePAt, moveWAt, commitAt, abortAt, orderAt, replied, obeyOf, ackOf, overIn, takeOverOf, settleOf};
+ghost use Rattle.site.specs.Step.{noticeOf, concludeOf, deliverOf, ruleOf, doneOf, kindOf, counted, countsOf, answered, stepOf, awaitedFirst};
 
 // The states: first, wait, prepared, abort, commit.
 pub enum State {
@@ -492,20 +495,14 @@ impl Site {
         next.taken(0, 0)
     }
 
-    fn take_over(self) -> Done
-        ensures { λ r. ⌜ r ≡ takeOverOf self ⌝ }
+    // It leads, acknowledgements cleared, and tells all where it stands; from q it goes to a.
+    fn leads(self) -> Done
+        ensures { λ r. ⌜ r ≡ overIn (self .state) self ⌝ }
     {
-        let number = self.number;
-        if number <= self.leader {
-            return self.refused(5);
-        }
-        if !sets::subset(sets::below(number), self.known) {
-            return self.refused(5);
-        }
         let to = self.to_all();
         let state = self.state;
         let mut next = self;
-        next.leader = number;
+        next.leader = next.number;
         next.acked = 0;
         match state {
             State::Q => next.in_state(State::A).taken(ABORT, to),
@@ -516,14 +513,35 @@ impl Site {
         }
     }
 
+    // Does the site follow a lower one, and does it know all lower ones stopped?
+    fn may_lead(self) -> bool
+        ensures { λ r. ⌜ r ≡ (ltb (self .leader) (self .number) && subset (belowOf (self .number)) (self .known)) ⌝ }
+    {
+        let number = self.number;
+        self.leader < number && sets::subset(sets::below(number), self.known)
+    }
+
+    fn take_over(self) -> Done
+        ensures { λ r. ⌜ r ≡ takeOverOf self ⌝ }
+    {
+        if !self.may_lead() {
+            return self.refused(5);
+        }
+        self.leads()
+    }
+
+    // Has every other site acknowledged, or is it known stopped?
+    fn settled(self) -> bool
+        ensures { λ r. ⌜ r ≡ (collects self && eqb (awaitedOf self) 0) ⌝ }
+    {
+        self.collects() && self.awaited() == 0
+    }
+
     // A leader concludes by the acknowledgements.
     fn settle(self) -> Done
         ensures { λ r. ⌜ r ≡ settleOf self ⌝ }
     {
-        if !self.collects() {
-            return self.refused(5);
-        }
-        if self.awaited() != 0 {
+        if !self.settled() {
             return self.refused(5);
         }
         let to = self.to_all();
@@ -567,7 +585,21 @@ impl Site {
         }
     }
 
-    // The step's rule, after the grounds 1 and 2.
+    // The step's own rule.
+    fn rule(self, step: Step) -> Done
+        ensures { λ r. ⌜ r ≡ ruleOf self step ⌝ }
+    {
+        match step {
+            Step::Begin(vote) => self.begin(vote),
+            Step::Start(from, vote) => self.start(from, vote),
+            Step::Deliver(kind, from) => self.deliver(kind, from),
+            Step::Notice(o) => self.notice(o),
+            Step::TakeOver => self.take_over(),
+            Step::Conclude => self.conclude(),
+        }
+    }
+
+    // The grounds 1 and 2, then the rule.
     fn done(self, step: Step) -> Done
         ensures { λ r. ⌜ r ≡ doneOf self step ⌝ }
     {
@@ -577,14 +609,7 @@ impl Site {
         if !self.names(step) {
             return self.refused(2);
         }
-        match step {
-            Step::Begin(vote) => self.begin(vote),
-            Step::Start(from, vote) => self.start(from, vote),
-            Step::Deliver(kind, from) => self.deliver(kind, from),
-            Step::Notice(o) => self.notice(o),
-            Step::TakeOver => self.take_over(),
-            Step::Conclude => self.conclude(),
-        }
+        self.rule(step)
     }
 
     // The site step.
