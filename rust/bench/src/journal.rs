@@ -1,19 +1,16 @@
-//! Times records and rehearsals.
+//! Rows of records and rehearsals.
 
 use crate::plain;
-use crate::race::{race, Race};
+use crate::row::{Round, Row};
+use crate::side::Side;
 use compare::inputs::journals::Journals;
 use compare::inputs::runs::Event;
 use compare::inputs::Random;
 use compare::journal::{Journaling, AMPLE};
 use std::hint::black_box;
 
-/// The plain implementation of records and rehearsals.
-pub const PLAIN: Journaling =
-    Journaling { read: plain::record_read, write: plain::record_write, rehearse: plain::rehearse };
-
-/// The same, with a soundness test at each event of a rehearsal.
-pub const TESTING: Journaling = Journaling { rehearse: plain::rehearse_testing, ..PLAIN };
+/// The records that fit into the programs' 65,536 bytes.
+pub const FULL: usize = 7281;
 
 /// A journal of so many records for eight sites. A run accepts some 150 events at most, so a
 /// short journal is mostly accepted and a long one mostly refused.
@@ -40,43 +37,56 @@ fn write_all(program: Journaling, events: &[Event], room: &mut [u8]) {
     black_box(room);
 }
 
-fn rehearse_all(program: Journaling, journal: &[u8], room: &mut [u8]) {
+fn rehearse(program: Journaling, journal: &[u8], room: &mut [u8]) {
     black_box((black_box(program.rehearse))(journal, room));
     black_box(room);
 }
 
-fn records_races(library: Journaling) -> Vec<Race> {
-    let journal = journal(2000);
-    let field = |record: &[u8]| Event::try_from(&record[3..]).expect("a record has nine bytes");
-    let events: Vec<Event> = journal[1..].chunks(9).map(field).collect();
-    let rounds = (2000, events.len() as u32);
-    let (mut room, mut other) = (vec![0; journal.len()], vec![0; journal.len()]);
-    vec![
-        race("record read", rounds, || read_all(library, &journal), || read_all(PLAIN, &journal)),
-        race(
-            "record written",
-            rounds,
-            || write_all(library, &events, &mut room),
-            || write_all(PLAIN, &events, &mut other),
-        ),
-    ]
+fn read_row(records: usize) -> Row {
+    Row::new(format!("read-{records}"), "record", 2000, move |side: Side| {
+        let journal = journal(records);
+        let work = move || read_all(side.journaling(), &journal);
+        Round { units: records as u32, work: Box::new(work) }
+    })
 }
 
-/// Rehearsals of a short and of the longest journal, each record counted as a call.
-pub fn races(library: Journaling) -> Vec<Race> {
-    let mut races = records_races(library);
-    let (mut room, mut other) = (vec![0; AMPLE], vec![0; AMPLE]);
-    let mut timed = |name, records, against: Journaling| {
+fn write_row(records: usize) -> Row {
+    Row::new(format!("write-{records}"), "record", 2000, move |side: Side| {
         let journal = journal(records);
-        race(
-            name,
-            (300, records as u32),
-            || rehearse_all(library, &journal, &mut room),
-            || rehearse_all(against, &journal, &mut other),
-        )
-    };
-    races.push(timed("rehearsal, per record of 70", 70, PLAIN));
-    races.push(timed("rehearsal, per record of 7281", 7281, PLAIN));
-    races.push(timed("same, plain tests soundness too", 7281, TESTING));
-    races
+        let fields = |record: &[u8]| Event::try_from(&record[3..]).expect("nine bytes");
+        let events: Vec<Event> = journal[1..].chunks(9).map(fields).collect();
+        let mut room = vec![0; journal.len()];
+        let work = move || write_all(side.journaling(), &events, &mut room);
+        Round { units: records as u32, work: Box::new(work) }
+    })
+}
+
+fn rehearse_row(
+    name: String,
+    records: usize,
+    program: impl Fn(Side) -> Journaling + 'static,
+) -> Row {
+    Row::new(name, "record", 300, move |side: Side| {
+        let (journal, mut room, program) = (journal(records), vec![0; AMPLE], program(side));
+        let work = move || rehearse(program, &journal, &mut room);
+        Round { units: records as u32, work: Box::new(work) }
+    })
+}
+
+/// Plain Rust with a soundness test at each event of a rehearsal, which the library has.
+fn testing(side: Side) -> Journaling {
+    match side {
+        Side::Library => side.journaling(),
+        Side::Plain => Journaling { rehearse: plain::rehearse_testing, ..side.journaling() },
+    }
+}
+
+/// Records of a short and of a full journal, read and written, and rehearsals of journals up to the
+/// full one.
+pub fn rows() -> Vec<Row> {
+    let by_side = |records| rehearse_row(format!("rehearse-{records}"), records, Side::journaling);
+    let mut rows = vec![read_row(FULL / 8), read_row(FULL), write_row(FULL / 8), write_row(FULL)];
+    rows.extend([70, FULL / 8, FULL / 4, FULL / 2, FULL].map(by_side));
+    rows.push(rehearse_row(format!("rehearse-{FULL}-testing"), FULL, testing));
+    rows
 }

@@ -2,10 +2,17 @@
 
 pub mod journal;
 pub mod plain;
-pub mod race;
+pub mod row;
 pub mod run;
 pub mod sheet;
+pub mod side;
 pub mod site;
+pub mod slowest;
 
 #[cfg(test)]
 mod tests;
+
+/// The rows of the table.
+pub fn rows() -> Vec<row::Row> {
+    [site::rows(), run::rows(), journal::rows(), sheet::rows()].into_iter().flatten().collect()
+}

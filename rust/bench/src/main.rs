@@ -1,55 +1,73 @@
-//! Compares the proved library with plain Rust, then times both and prints the ratios.
+//! Times the proved library beside plain Rust, and the two programs on their worst inputs.
 
-use bench::race::{print_head, Race};
-use bench::{plain, site};
+use bench::row::{print_head, Row};
+use bench::side::Side;
+use bench::slowest;
 use compare::tally::Tally;
 use std::process::ExitCode;
 
-#[cfg(feature = "run")]
-const RUNS: compare::run::Runs =
-    compare::run::Runs { fresh: fjadrimor::calls::run_fresh, event: fjadrimor::calls::run_event };
-
-#[cfg(feature = "journal")]
-const JOURNALING: compare::journal::Journaling = compare::journal::Journaling {
-    read: fjadrimor::calls::record_read,
-    write: fjadrimor::calls::record_write,
-    rehearse: fjadrimor::calls::rehearse,
-};
-
-#[cfg(feature = "sheet")]
-const JUDGING: compare::sheet::Judging = compare::sheet::Judging {
-    judge: fjadrimor::calls::sheet_judge,
-    report: fjadrimor::calls::sheet_report,
-};
+const USAGE: &str =
+    "usage: bench [ROW..]                     compares both, times both, prints the ratios
+       bench --rows                      names the rows
+       bench --count ROW library|plain   does the work of a row once and tells its units
+       bench --slowest REHEARSAL SHEETS  times the two programs on the worst inputs known";
 
 /// Every comparison of the two; one that differs ends the bench.
-fn comparisons() -> Vec<Tally> {
-    vec![
-        compare::site::compare(fjadrimor::calls::site_step, plain::site_step, 100_000),
-        #[cfg(feature = "run")]
-        compare::run::compare(RUNS, bench::run::PLAIN, 100_000),
-        #[cfg(feature = "journal")]
-        compare::journal::compare(JOURNALING, bench::journal::PLAIN, 1000),
-        #[cfg(feature = "sheet")]
-        compare::sheet::compare(JUDGING, bench::sheet::PLAIN, 2000),
+fn comparisons() -> [Tally; 4] {
+    let (library, plain) = (Side::Library, Side::Plain);
+    [
+        compare::site::compare(library.site_step(), plain.site_step(), 100_000),
+        compare::run::compare(library.runs(), plain.runs(), 100_000),
+        compare::journal::compare(library.journaling(), plain.journaling(), 1000),
+        compare::sheet::compare(library.judging(), plain.judging(), 2000),
     ]
 }
 
-fn print(races: Vec<Race>) {
-    races.iter().for_each(Race::print);
+/// The rows of these names, all where none is named.
+fn rows(names: &[String]) -> Option<Vec<Row>> {
+    let mut rows = bench::rows();
+    if !names.iter().all(|name| rows.iter().any(|row| row.name == *name)) {
+        return None;
+    }
+    rows.retain(|row| names.is_empty() || names.contains(&row.name));
+    Some(rows)
+}
+
+fn table(rows: &[Row]) -> bool {
+    if !comparisons().iter().all(Tally::finish) {
+        return false;
+    }
+    print_head();
+    rows.iter().for_each(Row::print);
+    true
+}
+
+/// Does what the arguments ask for and tells whether all was well, or none where they ask for
+/// nothing known.
+fn done(arguments: &[String]) -> Option<bool> {
+    match arguments {
+        [flag] if flag == "--rows" => {
+            bench::rows().iter().for_each(|row| println!("{}", row.name));
+            Some(true)
+        }
+        [flag, name, side] if flag == "--count" => {
+            let row = rows(std::slice::from_ref(name))?.pop()?;
+            println!("{} {}", row.unit, row.count(Side::named(side)?));
+            Some(true)
+        }
+        [flag, rehearsal, sheets] if flag == "--slowest" => Some(slowest::look(rehearsal, sheets)),
+        names => Some(table(&rows(names)?)),
+    }
 }
 
 fn main() -> ExitCode {
-    if !comparisons().iter().all(Tally::finish) {
-        return ExitCode::FAILURE;
+    let arguments: Vec<String> = std::env::args().skip(1).collect();
+    match done(&arguments) {
+        Some(true) => ExitCode::SUCCESS,
+        Some(false) => ExitCode::FAILURE,
+        None => {
+            eprintln!("{USAGE}");
+            ExitCode::from(2)
+        }
     }
-    print_head();
-    print(site::races(fjadrimor::calls::site_step));
-    #[cfg(feature = "run")]
-    print(bench::run::races(RUNS));
-    #[cfg(feature = "journal")]
-    print(bench::journal::races(JOURNALING));
-    #[cfg(feature = "sheet")]
-    print(bench::sheet::races(JUDGING));
-    ExitCode::SUCCESS
 }

@@ -1,14 +1,12 @@
-//! Times events of runs.
+//! Rows of events of runs.
 
 use crate::plain;
-use crate::race::{race, Race};
+use crate::row::{Round, Row};
+use crate::side::Side;
 use compare::inputs::runs::{any_run, Event, Events, RUN};
 use compare::inputs::Random;
 use compare::run::{happen, Runs};
 use std::hint::black_box;
-
-/// The plain implementation of runs.
-pub const PLAIN: Runs = Runs { fresh: plain::run_fresh, event: plain::run_event };
 
 type Call = (Vec<u8>, Event);
 
@@ -22,7 +20,7 @@ fn in_runs_from_fresh(n: u8) -> Vec<Call> {
         plain::run_fresh(n, &mut run);
         for _ in 0..8 * n {
             let event = events.next(&mut random, &run);
-            let after = happen(PLAIN, &run, event, 3).1;
+            let after = happen(Side::Plain.runs(), &run, event, 3).1;
             calls.push((run, event));
             run = after;
         }
@@ -54,16 +52,18 @@ fn make(program: Runs, calls: &[Call]) {
     }
 }
 
-/// Events in small, middling and large runs from fresh, and in arbitrary ones.
-pub fn races(library: Runs) -> Vec<Race> {
-    let timed = |name, calls: Vec<Call>| {
-        let length = calls.len() as u32;
-        race(name, (1000, length), || make(library, &calls), || make(PLAIN, &calls))
-    };
-    vec![
-        timed("event, runs of 2 from fresh", in_runs_from_fresh(2)),
-        timed("event, runs of 5 from fresh", in_runs_from_fresh(5)),
-        timed("event, runs of 8 from fresh", in_runs_from_fresh(8)),
-        timed("event, arbitrary runs", in_arbitrary_runs()),
-    ]
+fn row(name: impl Into<String>, calls: impl Fn() -> Vec<Call> + 'static) -> Row {
+    Row::new(name, "event", 1000, move |side: Side| {
+        let calls = calls();
+        let units = calls.len() as u32;
+        Round { units, work: Box::new(move || make(side.runs(), &calls)) }
+    })
+}
+
+/// Events in runs of each size from fresh, and in arbitrary ones.
+pub fn rows() -> Vec<Row> {
+    let from_fresh = |n| row(format!("event-n{n}"), move || in_runs_from_fresh(n));
+    let mut rows: Vec<Row> = (2..=8).map(from_fresh).collect();
+    rows.push(row("event-any-run", in_arbitrary_runs));
+    rows
 }

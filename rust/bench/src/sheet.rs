@@ -1,14 +1,11 @@
-//! Times the judge and the report.
+//! Rows of the judge and of the report.
 
-use crate::plain;
-use crate::race::{race, Race};
+use crate::row::{Round, Row};
+use crate::side::Side;
 use compare::inputs::sheets::{any_case, product, renamed, Draft};
 use compare::inputs::{figures, Random};
 use compare::sheet::{Judging, AMPLE, OUT};
 use std::hint::black_box;
-
-/// The plain implementation of the judge.
-pub const PLAIN: Judging = Judging { judge: plain::sheet_judge, report: plain::sheet_report };
 
 /// Judges sheets, each with the same words.
 fn judge_all(program: Judging, sheets: &[Vec<u8>], words: &mut [u64]) {
@@ -28,15 +25,22 @@ fn report_all(program: Judging, sheets: &[Vec<u8>], words: &mut [u64], room: &mu
     }
 }
 
-/// 4,096 states and each transition twice, the states numbered in order.
-fn largest() -> Draft {
-    let mut draft = product(&[8, 8, 8, 8], false);
-    draft.moves.extend(draft.moves.clone());
+/// Sites with so many states each, which go through them in order and independently: the product
+/// of the counts is the number of reachable states. Whatever it is, there are 56 transitions, some
+/// of them more than once.
+fn ordered(counts: [u8; 4]) -> Draft {
+    let mut draft = product(&counts, false);
+    draft.moves = draft.moves.iter().copied().cycle().take(56).collect();
     draft
 }
 
+/// The largest of them.
+pub fn largest() -> Draft {
+    ordered([8; 4])
+}
+
 /// The same with each site's states numbered downwards, but for the first.
-fn against_the_order() -> Draft {
+pub fn against_the_order() -> Draft {
     let mut draft = largest();
     let down = |state: u8| if state == 0 { 0 } else { 8 - state };
     for a in &mut draft.moves {
@@ -45,39 +49,62 @@ fn against_the_order() -> Draft {
     draft
 }
 
-/// One state over the limit.
-fn too_large(random: &mut Random) -> Vec<Vec<u8>> {
-    (0..4).map(|_| renamed(random, &product(&[8, 8, 8, 8], true)).bytes()).collect()
+/// The same sheet four times, with its states, messages and transitions in some other order.
+fn reordered(draft: &Draft) -> Vec<Vec<u8>> {
+    let mut random = Random::new(31);
+    (0..4).map(|_| renamed(&mut random, draft).bytes()).collect()
 }
 
-pub fn races(library: Judging) -> Vec<Race> {
+fn figures() -> Vec<Vec<u8>> {
+    figures::all().iter().map(Draft::bytes).collect()
+}
+
+fn any_sheets() -> Vec<Vec<u8>> {
     let mut random = Random::new(31);
-    let (mut words, mut others) = (vec![0; 4096], vec![0; 4096]);
-    let mut judged = |name, rounds, sheets: Vec<Vec<u8>>| {
-        race(
-            name,
-            (rounds, sheets.len() as u32),
-            || judge_all(library, &sheets, &mut words),
-            || judge_all(PLAIN, &sheets, &mut others),
-        )
-    };
-    let figures: Vec<Vec<u8>> = figures::all().iter().map(Draft::bytes).collect();
-    let mixed = (0..200).map(|_| any_case(&mut random).bytes).collect();
-    let renamed = (0..4).map(|_| renamed(&mut random, &largest()).bytes()).collect();
-    let mut races = vec![
-        judged("judge, the paper's figures", 300, figures.clone()),
-        judged("judge, sheets of every sort", 30, mixed),
-        judged("judge, 4096 states in order", 30, vec![largest().bytes()]),
-        judged("judge, 4096 against the order", 30, vec![against_the_order().bytes()]),
-        judged("judge, 4096 in random order", 30, renamed),
-        judged("judge, more than 4096", 30, too_large(&mut random)),
+    (0..200).map(|_| any_case(&mut random).bytes).collect()
+}
+
+/// A row of sheets that have so many units each.
+fn judged(
+    name: impl Into<String>,
+    (unit, each): (&'static str, u32),
+    rounds: u32,
+    sheets: impl Fn() -> Vec<Vec<u8>> + 'static,
+) -> Row {
+    Row::new(name, unit, rounds, move |side: Side| {
+        let (sheets, mut words) = (sheets(), vec![0; 4096]);
+        let units = each * sheets.len() as u32;
+        Round { units, work: Box::new(move || judge_all(side.judging(), &sheets, &mut words)) }
+    })
+}
+
+/// A row of one sheet by the number of its states.
+fn by_states(counts: [u8; 4]) -> Row {
+    let states = counts.iter().map(|&count| u32::from(count)).product();
+    judged(format!("judge-{states}"), ("state", states), 100, move || vec![ordered(counts).bytes()])
+}
+
+fn reported(name: &str, sheets: impl Fn() -> Vec<Vec<u8>> + 'static) -> Row {
+    Row::new(name, "sheet", 300, move |side: Side| {
+        let (sheets, mut words, mut room) = (sheets(), vec![0; 4096], vec![0; AMPLE]);
+        let units = sheets.len() as u32;
+        let work = move || report_all(side.judging(), &sheets, &mut words, &mut room);
+        Round { units, work: Box::new(work) }
+    })
+}
+
+/// Small sheets, sheets of every sort, sheets by the number of their states up to the largest, the
+/// largest in other orders, and larger ones.
+pub fn rows() -> Vec<Row> {
+    let mut rows = vec![
+        judged("judge-figures", ("sheet", 1), 300, figures),
+        judged("judge-any-sheet", ("sheet", 1), 30, any_sheets),
     ];
-    let (mut room, mut space) = (vec![0; AMPLE], vec![0; AMPLE]);
-    races.push(race(
-        "report, the paper's figures",
-        (300, figures.len() as u32),
-        || report_all(library, &figures, &mut words, &mut room),
-        || report_all(PLAIN, &figures, &mut others, &mut space),
-    ));
-    races
+    rows.extend([[2; 4], [4, 4, 2, 2], [4; 4], [8, 8, 4, 4], [8; 4]].map(by_states));
+    let state = ("state", 4096);
+    rows.push(judged("judge-4096-down", state, 30, || vec![against_the_order().bytes()]));
+    rows.push(judged("judge-4096-mixed", state, 30, || reordered(&largest())));
+    rows.push(judged("judge-4097-mixed", state, 30, || reordered(&product(&[8; 4], true))));
+    rows.push(reported("report-figures", figures));
+    rows
 }

@@ -1,19 +1,20 @@
-//! Times single site steps.
+//! Rows of single site steps.
 
 use crate::plain;
-use crate::race::{race, Race};
+use crate::row::{Round, Row};
+use crate::side::Side;
 use compare::inputs::{steps, Random};
 use compare::site::{any_call, Call, SiteStep};
 use std::hint::black_box;
 
-/// Random calls with slices of the right length whose first answer byte is `outcome`.
-fn calls(outcome: u8) -> Vec<Call> {
+/// Random calls with slices of the right length that `wanted` picks, by n and by outcome.
+fn calls(wanted: impl Fn(u8, u8) -> bool) -> Vec<Call> {
     let mut random = Random::new(7);
     let steps = steps(8);
     let mut found = Vec::new();
     while found.len() < 4096 {
         let call = Call { room: 5, ..any_call(&mut random, &steps) };
-        if call.site.len() == 8 && call.made(plain::site_step).2[0] == outcome {
+        if call.site.len() == 8 && wanted(call.site[0], call.made(plain::site_step).2[0]) {
             found.push(call);
         }
     }
@@ -33,16 +34,21 @@ fn make(program: SiteStep, calls: &[Call]) {
     }
 }
 
-/// Steps that are taken, passed over and refused.
-pub fn races(library: SiteStep) -> Vec<Race> {
-    let names = ["site step, taken", "site step, passed over", "site step, refused"];
-    let timed = |(outcome, name)| {
-        let calls = calls(outcome);
-        let work = |program| {
-            let calls = &calls;
-            move || make(program, calls)
-        };
-        race(name, (2000, calls.len() as u32), work(library), work(plain::site_step))
-    };
-    (0..).zip(names).map(timed).collect()
+fn row(name: &str, wanted: impl Fn(u8, u8) -> bool + Clone + 'static) -> Row {
+    Row::new(name, "step", 2000, move |side: Side| {
+        let calls = calls(wanted.clone());
+        let units = calls.len() as u32;
+        Round { units, work: Box::new(move || make(side.site_step(), &calls)) }
+    })
+}
+
+/// Steps that are taken, passed over and refused, and taken ones of few and of many sites.
+pub fn rows() -> Vec<Row> {
+    vec![
+        row("step-taken", |_, outcome| outcome == 0),
+        row("step-passed", |_, outcome| outcome == 1),
+        row("step-refused", |_, outcome| outcome == 2),
+        row("step-taken-n2", |n, outcome| n == 2 && outcome == 0),
+        row("step-taken-n8", |n, outcome| n == 8 && outcome == 0),
+    ]
 }

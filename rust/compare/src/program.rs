@@ -8,7 +8,7 @@ use std::io::{self, Write};
 use std::process::{Command, Stdio};
 
 /// Runs an executable on these bytes and hands back what it writes. It need not read them all.
-fn output(path: &str, input: &[u8]) -> io::Result<Vec<u8>> {
+pub fn output(path: &str, input: &[u8]) -> io::Result<Vec<u8>> {
     let mut child = Command::new(path).stdin(Stdio::piped()).stdout(Stdio::piped()).spawn()?;
     let mut stdin = child.stdin.take().expect("the input is piped");
     std::thread::scope(|scope| {
