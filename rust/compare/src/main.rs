@@ -23,7 +23,6 @@ fn site(count: u64) -> Tally {
     compare::site::compare(fjadrimor::calls::site_step, second::bytes::site_step, count)
 }
 
-#[cfg(feature = "run")]
 fn run(count: u64) -> Tally {
     use compare::run::{compare, Runs};
     let library = Runs { fresh: fjadrimor::calls::run_fresh, event: fjadrimor::calls::run_event };
@@ -31,7 +30,6 @@ fn run(count: u64) -> Tally {
     compare(library, second, count)
 }
 
-#[cfg(feature = "journal")]
 fn journal(count: u64) -> Tally {
     use compare::journal::{compare, Journaling};
     let library = Journaling {
@@ -47,7 +45,6 @@ fn journal(count: u64) -> Tally {
     compare(library, second, count)
 }
 
-#[cfg(feature = "sheet")]
 fn sheet(count: u64) -> Tally {
     use compare::sheet::{compare, Judging};
     let library =
@@ -72,11 +69,8 @@ fn compared(arguments: &[String]) -> Option<Tally> {
     let (what, rest) = arguments.split_first()?;
     Some(match what.as_str() {
         "site" => site(count(rest, 1_000_000)?),
-        #[cfg(feature = "run")]
         "run" => run(count(rest, 300_000)?),
-        #[cfg(feature = "journal")]
         "journal" => journal(count(rest, 3000)?),
-        #[cfg(feature = "sheet")]
         "sheet" => sheet(count(rest, 5000)?),
         "program" => match rest {
             [path, what, rest @ ..] => program(path, what, rest)?,

@@ -5,7 +5,6 @@ mod chart;
 mod grounds;
 mod notation;
 mod rehearsal;
-#[cfg(feature = "sheet")]
 mod sheet;
 #[cfg(test)]
 mod tests;
@@ -105,7 +104,6 @@ fn main() -> ExitCode {
         None => bad_usage("no command is given"),
         Some((word, rest)) => match word.as_str() {
             "rehearse" | "assemble" | "show" | "chart" => run(word, rest),
-            #[cfg(feature = "sheet")]
             "judge" | "sheet" => sheet::command(&arguments) as u8,
             "--help" | "-h" | "help" => written(HELP.as_bytes()),
             _ => bad_usage(&format!("there is no command {word}")),

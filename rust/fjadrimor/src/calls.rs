@@ -14,10 +14,8 @@ mod c {
             answer_len: usize,
         ) -> u8;
 
-        #[cfg(feature = "run")]
         pub fn fj_run_fresh(n: u8, run: *mut u8, run_len: usize) -> u8;
 
-        #[cfg(feature = "run")]
         pub fn fj_run_event(
             run: *mut u8,
             run_len: usize,
@@ -31,7 +29,6 @@ mod c {
             answer_len: usize,
         ) -> u8;
 
-        #[cfg(feature = "journal")]
         pub fn fj_record_read(
             journal: *const u8,
             journal_len: usize,
@@ -40,7 +37,6 @@ mod c {
             fields_len: usize,
         ) -> u8;
 
-        #[cfg(feature = "journal")]
         pub fn fj_record_write(
             k: u8,
             s: u8,
@@ -53,7 +49,6 @@ mod c {
             at: usize,
         ) -> u8;
 
-        #[cfg(feature = "journal")]
         pub fn fj_rehearse(
             input: *const u8,
             input_len: usize,
@@ -61,7 +56,6 @@ mod c {
             text_len: usize,
         ) -> usize;
 
-        #[cfg(feature = "sheet")]
         pub fn fj_sheet_judge(
             sheet: *const u8,
             sheet_len: usize,
@@ -71,7 +65,6 @@ mod c {
             out_len: usize,
         ) -> u8;
 
-        #[cfg(feature = "sheet")]
         pub fn fj_sheet_report(
             sheet: *const u8,
             sheet_len: usize,
@@ -101,14 +94,12 @@ pub fn site_step(site: &mut [u8], k: u8, o: u8, m: u8, v: u8, answer: &mut [u8])
 }
 
 /// The fresh run of n sites.
-#[cfg(feature = "run")]
 pub fn run_fresh(n: u8, run: &mut [u8]) -> u8 {
     // SAFETY: the slice is live and as long as said.
     unsafe { c::fj_run_fresh(n, run.as_mut_ptr(), run.len()) }
 }
 
 /// One event of a run, with the fields K, S, O, M, V, X.
-#[cfg(feature = "run")]
 #[allow(clippy::too_many_arguments)]
 pub fn run_event(
     run: &mut [u8],
@@ -126,7 +117,6 @@ pub fn run_event(
 }
 
 /// The fields of the record at a place of a journal.
-#[cfg(feature = "journal")]
 pub fn record_read(journal: &[u8], at: usize, fields: &mut [u8]) -> u8 {
     let (room, length) = (fields.as_mut_ptr(), fields.len());
     // SAFETY: both slices are live, distinct, and as long as said.
@@ -134,7 +124,6 @@ pub fn record_read(journal: &[u8], at: usize, fields: &mut [u8]) -> u8 {
 }
 
 /// Writes the record of these fields at a place of the room.
-#[cfg(feature = "journal")]
 #[allow(clippy::too_many_arguments)]
 pub fn record_write(k: u8, s: u8, o: u8, m: u8, v: u8, x: u8, room: &mut [u8], at: usize) -> u8 {
     // SAFETY: the slice is live and as long as said.
@@ -142,7 +131,6 @@ pub fn record_write(k: u8, s: u8, o: u8, m: u8, v: u8, x: u8, room: &mut [u8], a
 }
 
 /// The rehearsal's text; its length, or 0 where the room is too small.
-#[cfg(feature = "journal")]
 pub fn rehearse(input: &[u8], text: &mut [u8]) -> usize {
     let (room, length) = (text.as_mut_ptr(), text.len());
     // SAFETY: both slices are live, distinct, and as long as said.
@@ -150,7 +138,6 @@ pub fn rehearse(input: &[u8], text: &mut [u8]) -> usize {
 }
 
 /// Judges a sheet; the reachable numbers go to the words, the judgement to `out`.
-#[cfg(feature = "sheet")]
 pub fn sheet_judge(sheet: &[u8], words: &mut [u64], out: &mut [u8]) -> u8 {
     let (lent, count) = (words.as_mut_ptr(), words.len());
     let (room, length) = (out.as_mut_ptr(), out.len());
@@ -159,7 +146,6 @@ pub fn sheet_judge(sheet: &[u8], words: &mut [u64], out: &mut [u8]) -> u8 {
 }
 
 /// The report's text; its length, or 0 where the room is too small.
-#[cfg(feature = "sheet")]
 pub fn sheet_report(sheet: &[u8], words: &mut [u64], text: &mut [u8]) -> usize {
     let (lent, count) = (words.as_mut_ptr(), words.len());
     let (room, length) = (text.as_mut_ptr(), text.len());

@@ -41,25 +41,19 @@
 
 pub mod calls;
 mod event;
-#[cfg(feature = "journal")]
 mod journal;
 mod message;
 mod refusal;
-#[cfg(feature = "run")]
 mod run;
-#[cfg(feature = "sheet")]
 mod sheet;
 mod site;
 mod sites;
 
 pub use event::{Event, Step};
-#[cfg(feature = "journal")]
 pub use journal::{Events, Journal};
 pub use message::{Kind, Message, Vote};
 pub use refusal::Refusal;
-#[cfg(feature = "run")]
 pub use run::{Ran, Run};
-#[cfg(feature = "sheet")]
 pub use sheet::{Decision, Judgement, Local, Sheet, Verdict};
 pub use site::{Done, Outcome, Site, State};
 pub use sites::Sites;

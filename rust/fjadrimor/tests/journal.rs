@@ -1,7 +1,5 @@
 //! Journals: written, read and rehearsed.
 
-#![cfg(feature = "journal")]
-
 use fjadrimor::{Event, Journal, Kind, Refusal, Sites, Step, Vote};
 
 fn act(site: u8, step: Step) -> Event {

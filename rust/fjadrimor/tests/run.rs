@@ -1,7 +1,5 @@
 //! Runs, from fresh and from bytes.
 
-#![cfg(feature = "run")]
-
 use fjadrimor::{Event, Kind, Message, Outcome, Refusal, Run, Sites, State, Step, Vote};
 
 fn act(site: u8, step: Step) -> Event {

@@ -1,7 +1,5 @@
 //! Sheets: two-phase commit with two sites, as document 01 has it.
 
-#![cfg(feature = "sheet")]
-
 use fjadrimor::{Decision, Refusal, Sheet, Verdict};
 
 /// Messages: 0 request, 1 start, 2 yes, 3 no, 4 abort, 5 commit. A line is a transition: site,
