@@ -7,6 +7,7 @@ const USAGE: &str = "usage: compare site [--count N]
        compare run [--count N]
        compare journal [--count N]
        compare sheet [--count N]
+       compare hostile [--count N]
        compare program PATH rehearsal [--count N]
        compare program PATH sheets [--count N]";
 
@@ -72,6 +73,7 @@ fn compared(arguments: &[String]) -> Option<Tally> {
         "run" => run(count(rest, 300_000)?),
         "journal" => journal(count(rest, 3000)?),
         "sheet" => sheet(count(rest, 5000)?),
+        "hostile" => compare::hostile::compare(count(rest, 10_000)?),
         "program" => match rest {
             [path, what, rest @ ..] => program(path, what, rest)?,
             _ => return None,

@@ -1,7 +1,9 @@
 //! The calls of the C interface as safe functions on slices, and the one place that declares them.
 //! A lent slice is passed as its address and its length. The types of this crate stand on these.
 
-mod c {
+/// The calls as C has them, for whoever holds addresses and not slices: a null pointer with length 0,
+/// say. The slices of one call must be live and must not overlap.
+pub mod c {
     extern "C" {
         pub fn fj_site_step(
             site: *mut u8,

@@ -1,0 +1,138 @@
+//! The entry points of the C interface on lent memory: a call, and what it may leave.
+
+use super::lent::{Lent, Way};
+use fjadrimor::calls::c;
+
+#[derive(Clone, Copy, Debug, PartialEq, Eq, PartialOrd, Ord)]
+pub enum Entry {
+    SiteStep,
+    RunFresh,
+    RunEvent,
+    RecordRead,
+    RecordWrite,
+    Rehearse,
+    SheetJudge,
+    SheetReport,
+}
+
+/// A call. What an entry point does not take is ignored.
+#[derive(Clone, Debug)]
+pub struct Call {
+    pub entry: Entry,
+    /// K S O M V X; K is also the n of a fresh run.
+    pub fields: [u8; 6],
+    pub at: usize,
+    /// The site, run, journal, input or sheet.
+    pub given: Vec<u8>,
+    /// The room for an answer, a fresh run, a record or a text.
+    pub room: Vec<u8>,
+    pub words: Vec<u64>,
+}
+
+/// What a call returned and what it left of the memory lent to it.
+#[derive(Debug, PartialEq, Eq)]
+pub struct After {
+    pub returned: usize,
+    pub given: Vec<u8>,
+    pub room: Vec<u8>,
+    pub words: Vec<u64>,
+}
+
+impl Entry {
+    pub const ALL: [Entry; 8] = [
+        Entry::SiteStep,
+        Entry::RunFresh,
+        Entry::RunEvent,
+        Entry::RecordRead,
+        Entry::RecordWrite,
+        Entry::Rehearse,
+        Entry::SheetJudge,
+        Entry::SheetReport,
+    ];
+
+    /// The refusals that it has; for a text 0, where the room is too small.
+    pub fn refusals(self) -> &'static [usize] {
+        match self {
+            Entry::SiteStep => &[1, 2, 5, 6, 13, 14, 15],
+            Entry::RunFresh => &[1, 15],
+            Entry::RunEvent => &[1, 2, 3, 4, 5, 6, 13, 14, 15],
+            Entry::RecordRead => &[10, 11, 12, 13, 14, 15],
+            Entry::RecordWrite => &[13, 14, 15],
+            Entry::SheetJudge => &[15, 20, 21, 22, 23, 24, 25, 26, 27, 28, 29, 30, 31],
+            Entry::Rehearse | Entry::SheetReport => &[0],
+        }
+    }
+}
+
+impl Call {
+    /// Makes the call with its memory lent in one of the ways.
+    pub fn made(&self, way: Way) -> After {
+        let (mut given, mut room) = (Lent::new(&self.given, way), Lent::new(&self.room, way));
+        let mut words = Lent::new(&self.words, way);
+        let (a, a_len) = (given.address(), given.length());
+        let (b, b_len) = (room.address(), room.length());
+        let (w, w_len) = (words.address(), words.length());
+        let [k, s, o, m, v, x] = self.fields;
+        // SAFETY: the lent memory is live, distinct, and as long as said.
+        let returned = unsafe {
+            match self.entry {
+                Entry::SiteStep => c::fj_site_step(a, a_len, k, o, m, v, b, b_len).into(),
+                Entry::RunFresh => c::fj_run_fresh(k, b, b_len).into(),
+                Entry::RunEvent => c::fj_run_event(a, a_len, k, s, o, m, v, x, b, b_len).into(),
+                Entry::RecordRead => c::fj_record_read(a, a_len, self.at, b, b_len).into(),
+                Entry::RecordWrite => {
+                    c::fj_record_write(k, s, o, m, v, x, b, b_len, self.at).into()
+                }
+                Entry::Rehearse => c::fj_rehearse(a, a_len, b, b_len),
+                Entry::SheetJudge => c::fj_sheet_judge(a, a_len, w, w_len, b, b_len).into(),
+                Entry::SheetReport => c::fj_sheet_report(a, a_len, w, w_len, b, b_len),
+            }
+        };
+        After { returned, given: given.left(), room: room.left(), words: words.left() }
+    }
+
+    /// What the call may leave, if it returned what it did: all as before, but for the bytes that
+    /// it is said to write. Of these, what an accepted call wrote is taken as it is.
+    pub fn allowed(&self, after: &After) -> After {
+        let (mut given, mut room) = (self.given.clone(), self.room.clone());
+        let mut words = self.words.clone();
+        let returned = after.returned;
+        match (self.entry, returned) {
+            (Entry::SheetReport, 1..) => {
+                let verdict = vec![0; 206];
+                words = Call { entry: Entry::SheetJudge, room: verdict, ..self.clone() }
+                    .made(Way::Between)
+                    .words;
+                room[..returned].copy_from_slice(&after.room[..returned]);
+            }
+            (Entry::Rehearse, _) => room[..returned].copy_from_slice(&after.room[..returned]),
+            (Entry::SheetReport, _) | (_, 15) => {}
+            (Entry::SiteStep, 0) => {
+                given.clone_from(&after.given);
+                room[..5].copy_from_slice(&after.room[..5]);
+            }
+            (Entry::SiteStep, _) => room[..5].copy_from_slice(&[2, 0, 0, 0, 0]),
+            (Entry::RunFresh, _) => room.clone_from(&after.room),
+            (Entry::RunEvent, 0) => {
+                given.clone_from(&after.given);
+                room[..3].copy_from_slice(&after.room[..3]);
+            }
+            (Entry::RunEvent, _) => room[..3].copy_from_slice(&[2, 0, 0]),
+            (Entry::RecordRead, 0) => room[..6].copy_from_slice(&after.room[..6]),
+            (Entry::RecordWrite, 0) => {
+                let record = self.at..self.at + 9;
+                room[record.clone()].copy_from_slice(&after.room[record]);
+            }
+            (Entry::RecordRead | Entry::RecordWrite, _) => {}
+            (Entry::SheetJudge, 0) => {
+                room[..206].copy_from_slice(&after.room[..206]);
+                words[..4096].copy_from_slice(&after.words[..4096]);
+            }
+            (Entry::SheetJudge, ground) => {
+                room[..206].fill(0);
+                words[..if ground < 30 { 0 } else { 4096 }].fill(0);
+            }
+        }
+        After { returned, given, room, words }
+    }
+}
