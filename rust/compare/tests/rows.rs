@@ -1,8 +1,6 @@
 //! Document 01's tables and examples, row by row, through the library and through the second
 //! program.
 
-#![cfg(all(feature = "run", feature = "journal", feature = "sheet"))]
-
 use compare::inputs::figures::central;
 use compare::inputs::sheets::product;
 use compare::inputs::{faults, Random};
