@@ -50,6 +50,7 @@ module _ (l : List ℕ) (r : Run) (whole : length l ≡ 138) (eight : length (r 
       where
         heads : length (r .n ∷ r .stopped ∷ flatMap siteBytes (r .sites)) ≡ 66
         heads = simp (sites-length, eight)
+
         rest : length (drop 64 (drop 2 l)) ≡ 72
         rest = simp (length-drop, whole)
 

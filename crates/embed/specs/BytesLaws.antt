@@ -101,13 +101,14 @@ module _ (l : List ℕ) where
   sites-part (suc k) p h s =
       append-assoc (siteBytes (siteFrom l p)) (flatMap siteBytes (map (siteFrom l) (places k (p + 8)))) (drop (p + 8 * suc k) l)
       ∙ ap (λ (x : List ℕ). siteBytes (siteFrom l p) ++ x)
-        (ap (λ (j : ℕ). flatMap siteBytes (map (siteFrom l) (places k (p + 8))) ++ drop j l) next
-        ∙ sites-part k (p + 8) (omega arith) (known-next k p s) ∙ sym (drop-drop 8 p l))
+      (ap (λ (j : ℕ). flatMap siteBytes (map (siteFrom l) (places k (p + 8))) ++ drop j l) next
+      ∙ sites-part k (p + 8) (omega arith) (known-next k p s) ∙ sym (drop-drop 8 p l))
       ∙ ap (λ (x : List ℕ). x ++ drop 8 (drop p l)) (site-part l p (omega arith) (ap (λ (j : ℕ). leb (getD l j 0) 4) first ∙ s 0 (omega arith)))
       ∙ take-append-drop 8 (drop p l)
     where
       first : p + 2 ≡ 8 * 0 + (p + 2)
       first = omega arith
+
       next : p + 8 * suc k ≡ p + 8 + 8 * k
       next = omega arith
 
@@ -126,5 +127,6 @@ module _ (l : List ℕ) where
     where
       known : (i : ℕ) → i < 8 → leb (getD l (8 * i + 4) 0) 4 ≡ true
       known = every-at 8 (λ (i : ℕ). leb (getD l (8 * i + 4) 0) 4) (and-second (eqb (length l) 138) (every 8 (λ (i : ℕ). leb (getD l (8 * i + 4) 0) 4)) h)
+
       tail : length (drop 66 l) ≡ 72
       tail = length-drop 66 l ∙ ap (λ (k : ℕ). k - 66) (run-length h)

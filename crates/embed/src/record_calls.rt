@@ -7,8 +7,10 @@ ghost use lib.ListN.{length, drop};
 ghost use Rattle.journal.specs.Record.{bodyOf};
 ghost use Rattle.embed.specs.Bytes.{leaves};
 ghost use Rattle.embed.specs.RecordCalls.{readCall, writeCall, rehearseCall};
-
-use fields::{event_of, fields_of, Fields, Made};
+use fields::Fields;
+use fields::Made;
+use fields::event_of;
+use fields::fields_of;
 use journal::Found;
 
 // K S O M V X, put at the front of a part.
@@ -45,7 +47,16 @@ pub extern "C" fn fj_record_read(journal: &[u8], at: usize, fields: &mut [u8]) -
 
 // The record of these fields, written into the nine bytes from a place on. Returns 0 or the refusal.
 #[no_mangle]
-pub extern "C" fn fj_record_write(k: u8, s: u8, o: u8, m: u8, v: u8, x: u8, room: &mut [u8], at: usize) -> u8
+pub extern "C" fn fj_record_write(
+    k: u8,
+    s: u8,
+    o: u8,
+    m: u8,
+    v: u8,
+    x: u8,
+    room: &mut [u8],
+    at: usize,
+) -> u8
     ensures { λ r. ⌜ leaves r (now (room .exit)) ≡ writeCall k s o m v x (now (room .entry)) at ⌝ }
 {
     let made = event_of(Fields { k, s, o, m, v, x });

@@ -6,11 +6,16 @@ ghost use Prim.Native.Nat.{_≤_};
 ghost use lib.ListN.{length, take, drop};
 ghost use Rattle.embed.specs.Bytes.{siteBytes, leaves, leavesBoth};
 ghost use Rattle.embed.specs.RunCalls.{isRun, runFrom, runBytes, freshCall, ranBytes, runCall};
-
-use crate::site_calls::{outcome_byte, put_site, site_from};
-use fields::{event_of, Fields, Made};
-use run::{Ran, Run};
-use site::{Outcome, Site};
+use crate::site_calls::outcome_byte;
+use crate::site_calls::put_site;
+use crate::site_calls::site_from;
+use fields::Fields;
+use fields::Made;
+use fields::event_of;
+use run::Ran;
+use run::Run;
+use site::Outcome;
+use site::Site;
 
 // Are these the bytes of a run?
 fn is_run(bytes: &[u8]) -> bool
@@ -142,7 +147,16 @@ fn put_ran(room: &mut [u8], ran: Ran)
 
 // One event of a run. Returns 0 or the refusal.
 #[no_mangle]
-pub extern "C" fn fj_run_event(run: &mut [u8], k: u8, s: u8, o: u8, m: u8, v: u8, x: u8, answer: &mut [u8]) -> u8
+pub extern "C" fn fj_run_event(
+    run: &mut [u8],
+    k: u8,
+    s: u8,
+    o: u8,
+    m: u8,
+    v: u8,
+    x: u8,
+    answer: &mut [u8],
+) -> u8
     ensures { λ r. ⌜ leavesBoth r (now (run .exit)) (now (answer .exit)) ≡ runCall (now (run .entry)) k s o m v x (now (answer .entry)) ⌝ }
 {
     if answer.len() < 3 {

@@ -6,8 +6,8 @@ ghost use Prim.Native.Nat.{_≤_, _%_};
 ghost use lib.ListN.{length, drop};
 ghost use Rattle.report.specs.Report.{Reported};
 ghost use Rattle.embed.specs.SheetCalls.{flagOf, flagsOf, localBytes, headBytes, verdictBytes, JudgeCall};
-
-use judge::{Local, Verdict};
+use judge::Local;
+use judge::Verdict;
 
 fn low_byte(x: u64) -> u8
     ensures { λ r. ⌜ r ≡ x % 256 ⌝ }

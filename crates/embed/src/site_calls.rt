@@ -6,12 +6,17 @@ ghost use Prim.Native.Nat.{_+_, _≤_};
 ghost use lib.ListN.{length, drop};
 ghost use Rattle.embed.specs.Bytes.{stateByte, stateFrom, siteBytes, siteFrom, outcomeByte, leavesBoth};
 ghost use Rattle.embed.specs.SiteCall.{isRecord, stepTold, answerBytes, siteCall};
-
-use fields::{event_of, Fields, Made};
+use fields::Fields;
+use fields::Made;
+use fields::event_of;
 use run::Event;
-use site::{Answer, Outcome, Site, State, Step};
+use site::Answer;
+use site::Outcome;
+use site::Site;
+use site::State;
+use site::Step;
 
-pub fn state_byte(state: State) -> u8
+fn state_byte(state: State) -> u8
     ensures { λ r. ⌜ r ≡ stateByte state ⌝ }
 {
     match state {
@@ -23,7 +28,7 @@ pub fn state_byte(state: State) -> u8
     }
 }
 
-pub fn state_from(b: u8) -> State
+fn state_from(b: u8) -> State
     ensures { λ r. ⌜ r ≡ stateFrom b ⌝ }
 {
     match b {
@@ -35,7 +40,7 @@ pub fn state_from(b: u8) -> State
     }
 }
 
-pub fn outcome_byte(outcome: Outcome) -> u8
+pub(crate) fn outcome_byte(outcome: Outcome) -> u8
     ensures { λ r. ⌜ r ≡ outcomeByte outcome ⌝ }
 {
     match outcome {
@@ -46,7 +51,7 @@ pub fn outcome_byte(outcome: Outcome) -> u8
 }
 
 // The site whose bytes stand at a place.
-pub fn site_from(bytes: &[u8], at: usize) -> Site
+pub(crate) fn site_from(bytes: &[u8], at: usize) -> Site
     requires { ⌜ at + 8 ≤ length (now bytes) ⌝ }
     ensures { λ r. ⌜ r ≡ siteFrom (now (bytes .entry)) at ⌝ }
 {
@@ -63,7 +68,7 @@ pub fn site_from(bytes: &[u8], at: usize) -> Site
 }
 
 // A site's bytes, put at the front of a part.
-pub fn put_site(bytes: &mut [u8], site: Site)
+pub(crate) fn put_site(bytes: &mut [u8], site: Site)
     requires { ⌜ 8 ≤ length (now bytes) ⌝ }
     ensures { λ _. ⌜ now (bytes .exit) ≡ siteBytes site ++ drop 8 (now (bytes .entry)) ⌝ }
 {

@@ -40,11 +40,12 @@ loop-again : tie.Need-loop-again Inv-loop μ-loop
 loop-again c =
     let l = c .before .before .before .args .bytes .now in
     let i = c .before .before .loop .i in
-    let h : length (drop 66 l) ≡ 72 = length-drop 66 l ∙ ap (λ (k : ℕ). k - 66) (c .before .before .before .pre) in
-    (omega arith,
-    ap (λ (x : List ℕ). set x i (getD l (66 + i) 0)) (c .before .before .loop .inv .1)
-    ∙ ap (λ (x : ℕ). set (front (replicate 72 0) (drop 66 l) i) i x) (sym (getD-drop 66 l i 0))
-    ∙ front-more (replicate 72 0) (drop 66 l) i (omega arith) (omega arith))
+    let h : length (drop 66 l) ≡ 72 = length-drop 66 l ∙ ap (λ (k : ℕ). k - 66) (c .before .before .before .pre) in (
+      omega arith,
+      ap (λ (x : List ℕ). set x i (getD l (66 + i) 0)) (c .before .before .loop .inv .1)
+          ∙ ap (λ (x : ℕ). set (front (replicate 72 0) (drop 66 l) i) i x) (sym (getD-drop 66 l i 0))
+          ∙ front-more (replicate 72 0) (drop 66 l) i (omega arith) (omega arith),
+    )
 
 returns : tie.Need-returns Inv-loop μ-loop
 returns c =

@@ -38,10 +38,11 @@ loop-less c = omega arith
 
 loop-again : tie.Need-loop-again Inv-loop μ-loop
 loop-again c =
-    let h : length (c .before .before .args .t2) ≡ 72 = search needs in
-    (omega arith,
-    ap (λ (x : List ℕ). set x (c .before .loop .i) (getD (c .before .before .args .t2) (c .before .loop .i) 0)) (c .before .loop .inv .1)
-    ∙ front-more (c .before .before .args .bytes .now) (c .before .before .args .t2) (c .before .loop .i) (omega (arith, c .before .before .pre)) (omega arith))
+    let h : length (c .before .before .args .t2) ≡ 72 = search needs in (
+      omega arith,
+      ap (λ (x : List ℕ). set x (c .before .loop .i) (getD (c .before .before .args .t2) (c .before .loop .i) 0)) (c .before .loop .inv .1)
+          ∙ front-more (c .before .before .args .bytes .now) (c .before .before .args .t2) (c .before .loop .i) (omega (arith, c .before .before .pre)) (omega arith),
+    )
 
 same-length : tie.Need-same-length Inv-loop μ-loop
 same-length c =
