@@ -199,7 +199,7 @@ fn put_tolerance(out: &mut [u8], at: usize, tolerance: u8) -> usize
 }
 
 // The report on an accepted sheet.
-pub fn put_accepted(out: &mut [u8], sheet: Sheet, verdict: Verdict) -> usize
+pub(crate) fn put_accepted(out: &mut [u8], sheet: Sheet, verdict: Verdict) -> usize
     requires { ⌜ 0 + length (acceptedText sheet verdict) ≤ length (now out) ⌝ }
     ensures { λ r. ⌜ Put (now (out .entry)) 0 (acceptedText sheet verdict) (now (out .exit)) r ⌝ }
 {
@@ -214,7 +214,7 @@ pub fn put_accepted(out: &mut [u8], sheet: Sheet, verdict: Verdict) -> usize
 }
 
 // `refused N`, alone.
-pub fn put_refused(out: &mut [u8], ground: u8) -> usize
+pub(crate) fn put_refused(out: &mut [u8], ground: u8) -> usize
     requires { ⌜ 0 + length (refusedLine ground) ≤ length (now out) ⌝ }
     ensures { λ r. ⌜ Put (now (out .entry)) 0 (refusedLine ground) (now (out .exit)) r ⌝ }
 {
