@@ -27,8 +27,7 @@ struct close {
     int steps;
 };
 
-/* The byte of a site's record that holds its state, and the letters of the states. */
-enum { STATE = 2 };
+/* The letters of the states, by their numbers. */
 static const char letters[] = "qwpac";
 
 /* Takes a step of one site, and queues what it writes. Returns 0, or the refusal: then nothing has
@@ -40,12 +39,12 @@ static uint8_t takes(struct close *close, uint8_t number, uint8_t k, uint8_t o, 
     if (ground != 0)
         return ground;
     for (uint8_t to = 1; to <= SITES; to++) {
-        if ((answer[2] >> (to - 1) & 1) != 0 && close->last < ROOM)
-            close->queue[close->last++] = (struct message){answer[1], number, to};
+        if ((answer[FJ_STEP_RECEIVERS] >> (to - 1) & 1) != 0 && close->last < ROOM)
+            close->queue[close->last++] = (struct message){answer[FJ_STEP_KIND], number, to};
     }
-    printf("%d %s ", ++close->steps, answer[0] == FJ_TAKEN ? "taken" : "passed");
+    printf("%d %s ", ++close->steps, answer[FJ_STEP_OUTCOME] == FJ_TAKEN ? "taken" : "passed");
     for (int i = 0; i < SITES; i++)
-        putchar(letters[close->site[i][STATE]]);
+        putchar(letters[close->site[i][FJ_SITE_STATE]]);
     putchar('\n');
     return 0;
 }

@@ -2,18 +2,34 @@
  * fjadrimor.h - a proved three-phase commit for two to eight sites, its event journal, and a judge
  * of commit protocols, on numbers and bytes.
  *
- * Link with the archive that `rt staticlib embed` writes (target/staticlib/libembed.a).
+ * Link with the archive that `rt staticlib embed` writes, target/staticlib/libembed.a (x86-64
+ * Linux). It needs memcpy and memset, and less than 64 KB of stack. No call allocates, keeps a
+ * pointer, does input or output, or has state of its own: calls on different memory may be made
+ * from any number of threads.
  *
- * Every call takes any bytes. What it cannot accept it refuses with a number (FJ_.. below), and
- * then the slice that holds a site, a run, a record or the room for one is left as it was. Bytes
- * beyond those that a call is said to write are never touched. No call keeps a pointer, allocates
- * or has state of its own: calls on different memory may be made from any number of threads.
+ * LENT MEMORY
+ * A slice is two arguments: its address and the number of its elements. All of it must be yours to
+ * read, and to write unless it is const. The slices of one call must not overlap. A null pointer is
+ * allowed only where the number of elements is 0.
  *
- * A slice is two arguments: its address and the number of its elements. The slices of one call
- * must not overlap, unless both are only read. A null pointer is allowed only where that number
- * is 0.
+ * WHAT A CALL TAKES AND LEAVES
+ * Every call takes any numbers and any bytes, and ends. What it cannot accept it refuses with a
+ * number (FJ_.. below); then the site, the run, the record's room and the fields are as they were
+ * (fj_run_fresh has one exception). Bytes beyond those that a call is said to write are never
+ * touched, accepted or refused.
  *
  * A set of sites is a byte in which site j has weight 2^(j-1): 0x01 is site 1, 0x80 is site 8.
+ *
+ * WHERE TO START
+ * A ledger keeps the eight bytes of its site (FJ_SITE). Whatever happens to it becomes a step:
+ *   1. call fj_site_step;
+ *   2. send the one kind of message that the answer names to each receiver that it names;
+ *   3. save the eight bytes, and only then go on.
+ * In that order: a ledger that stops between 2 and 3 is then the rules' stop inside a step, and the
+ * others can go on without it. After each step try FJ_CONCLUDE and FJ_TAKE_OVER, until both are
+ * refused with FJ_NOT_ALLOWED: that means "not yet". Tell every running site of each one that has
+ * stopped (FJ_NOTICE); one that has stopped stays stopped. examples/close.c takes two sites through
+ * a close. The promise that this rests on is in docs/PROOF.md.
  */
 #ifndef FJADRIMOR_H
 #define FJADRIMOR_H
@@ -27,7 +43,7 @@ extern "C" {
 
 /* ---- numbers ---------------------------------------------------------------------------- */
 
-/* States. */
+/* States: first, wait, prepared, abort (backed out), commit (posted). */
 enum { FJ_Q = 0, FJ_W = 1, FJ_P = 2, FJ_A = 3, FJ_C = 4 };
 
 /* Kinds of message. */
@@ -56,7 +72,7 @@ enum {
 /* V, the vote at a begin and at a delivery of Start; 0 in all else. */
 enum { FJ_VOTE_YES = 1, FJ_VOTE_NO = 2 };
 
-/* Outcomes. */
+/* Outcomes. A step that is passed over writes nothing and changes at most the leader followed. */
 enum { FJ_TAKEN = 0, FJ_PASSED = 1, FJ_REFUSED = 2 };
 
 /* Grounds for refusal; 0 is none. */
@@ -87,7 +103,7 @@ enum {
     FJ_CLASH = 31          /* a transition writes a message that is still outstanding */
 };
 
-/* Bytes of a site, a run, a record. */
+/* How many bytes a site, a run and a record have. */
 enum { FJ_SITE = 8, FJ_RUN = 138, FJ_RECORD = 9 };
 
 /* The least that answers need: bytes, and for the judge words too. */
@@ -97,20 +113,46 @@ enum { FJ_SITE_ANSWER = 5, FJ_RUN_ANSWER = 3, FJ_FIELDS = 6, FJ_VERDICT = 206, F
 #define FJ_REHEARSAL_ROOM(size) (38 + 26 * (((size) < 65536 ? (size) : 65536) / 9))
 enum { FJ_REPORT_ROOM = 3722 };
 
+/* Where a site's parts stand in its bytes. */
+enum {
+    FJ_SITE_N = 0,
+    FJ_SITE_NUMBER = 1,
+    FJ_SITE_STATE = 2,
+    FJ_SITE_LEADER = 3,
+    FJ_SITE_KNOWN = 4,
+    FJ_SITE_YES = 5,
+    FJ_SITE_NO = 6,
+    FJ_SITE_ACKED = 7
+};
+
+/* Where the parts of a step's answer stand. */
+enum {
+    FJ_STEP_OUTCOME = 0,
+    FJ_STEP_KIND = 1,
+    FJ_STEP_RECEIVERS = 2,
+    FJ_STEP_WRITTEN = 3,
+    FJ_STEP_AWAITED = 4
+};
+
+/* Where the parts of an event's answer stand. */
+enum { FJ_EVENT_OUTCOME = 0, FJ_EVENT_WRITTEN = 1, FJ_EVENT_AWAITED = 2 };
+
 /* ---- a site ----------------------------------------------------------------------------- */
 
 /*
  * One step of one site, where its bytes stand. Returns 0 or the refusal.
  *
- * site: 8 bytes: n, number, state, leader followed, then four sets of other sites: known stopped,
- *       yes heard, no heard, acknowledged.
- * k:    1 to 5.
+ * site: 8 bytes: n, its number, its state, the leader it follows, then four sets of other sites:
+ *       known stopped, yes heard, no heard, acknowledged. Site i of n before a close is
+ *       { n, i, FJ_Q, 1, 0, 0, 0, 0 }.
+ * k:    FJ_BEGIN to FJ_CONCLUDE.
  * o:    the sender of a delivery, or the site that a notice is about; else 0.
  * m:    the kind of a delivered message; else 0.
  * v:    the vote at a begin or a delivery of Start; else 0.
  *
  * Written to the first five bytes of answer: the outcome; the kind of the messages written, 0 for
- * none; the set of their receivers; how many messages; how many sites are still awaited.
+ * none; the set of their receivers; how many messages; how many sites are still awaited. Written to
+ * site: its bytes after the step.
  *
  * Tested in this order:
  *   15  answer has fewer than 5 bytes: nothing at all is written
@@ -119,10 +161,10 @@ enum { FJ_REPORT_ROOM = 3722 };
  *   14  v is not 1 or 2 in a begin or a delivery of Start, or a field that the step does not use
  *       is not 0
  *    1  the site is not sound
- *    2  o is not a site of 1 to n, m is no message, or the ends are wrong for it
+ *    2  o is not a site of 1 to n, a notice about itself, m is no message, or its ends are wrong
  *    5  a begin, take over or conclude that its rule does not allow
  *    6  a conflict
- * A refusal but 15 leaves the site and writes outcome 2 and four zeros.
+ * A refusal but 15 leaves site and writes outcome 2 and four zeros.
  */
 uint8_t fj_site_step(uint8_t *site, size_t site_len, uint8_t k, uint8_t o, uint8_t m, uint8_t v,
                      uint8_t *answer, size_t answer_len);
@@ -132,28 +174,30 @@ uint8_t fj_site_step(uint8_t *site, size_t site_len, uint8_t k, uint8_t o, uint8
 /*
  * A run is 138 bytes: n; the set of stopped sites; eight site records of 8 bytes, site i at
  * 2 + 8 * (i - 1); 72 bytes of network, at 66 + 8 * (kind - 1) + sender - 1 the set of receivers
- * for which that message is outstanding. The last eight bytes have no kind and stay 0. Places
+ * for which that message is outstanding. The last eight bytes have no kind and stay 0. Records
  * above n are handed back as they were.
  */
 
 /*
- * The fresh run of n sites: all in q, following site 1, nothing heard, nothing outstanding.
- * Returns 0 or the refusal:
+ * The fresh run of n sites: all in q, following site 1, nothing heard, nothing outstanding. Written
+ * to all 138 bytes of run. Returns 0 or the refusal:
  *   15  run is not 138 bytes long: nothing is written
- *    1  n is not 2 to 8: the same run is written with n 0 in it and in its site records
+ *    1  n is not 2 to 8: the same run is written with n 0 in it and in its site records, and every
+ *       event on it is refused with 1
  */
 uint8_t fj_run_fresh(uint8_t n, uint8_t *run, size_t run_len);
 
 /*
  * One event of a run, where its bytes stand. Returns 0 or the refusal.
  *
- * k:  1 to 6, or 17 to 21.
+ * k:  FJ_BEGIN to FJ_STOP, or FJ_DURING + 1 to FJ_DURING + 5.
  * s:  the acting site.
  * o, m, v: as in a site step.
- * x:  for k 17 to 21 the set of receivers whose messages still leave, any set; else 0.
+ * x:  for a stop inside a step the set of receivers whose messages still leave, any set; else 0.
  *
  * Written to the first three bytes of answer: the outcome (an accepted stop is taken); how many
- * messages were written; how many sites the acting site still awaits, 0 after a stop.
+ * messages were written; how many sites the acting site still awaits, 0 after a stop. Written to
+ * run: its bytes after the event.
  *
  * Tested in this order:
  *   15  answer has fewer than 3 bytes: nothing at all is written
@@ -166,7 +210,7 @@ uint8_t fj_run_fresh(uint8_t n, uint8_t *run, size_t run_len);
  *    4  no such message is outstanding; the noticed site has not stopped, or is known to have
  *    5  a begin, take over or conclude that its rule does not allow
  *    6  a conflict
- * A refusal but 15 leaves the run and writes outcome 2 and two zeros.
+ * A refusal but 15 leaves run and writes outcome 2 and two zeros.
  */
 uint8_t fj_run_event(uint8_t *run, size_t run_len, uint8_t k, uint8_t s, uint8_t o, uint8_t m,
                      uint8_t v, uint8_t x, uint8_t *answer, size_t answer_len);
@@ -175,12 +219,12 @@ uint8_t fj_run_event(uint8_t *run, size_t run_len, uint8_t k, uint8_t s, uint8_t
 
 /*
  * A record is 9 bytes: the length 0 7, the version 1, then K S O M V X. In a record S and O are
- * sites 1 to 8 and M is a message 1 to 8, each only where K uses it.
+ * sites 1 to 8 and M is a message 1 to 8, each only where K uses it, else 0.
  */
 
 /*
- * Reads the record that starts at the byte `at` of a journal. Returns 0 and puts K S O M V X into
- * the first six bytes of fields, or returns the refusal and leaves fields:
+ * Reads the record that starts at the byte `at` of a journal; `at` may be any number. Returns 0 and
+ * puts K S O M V X into the first six bytes of fields, or returns the refusal and leaves fields:
  *   15  fields has fewer than 6 bytes
  *   10  fewer than 2 bytes are left, also where `at` lies past the end
  *   11  the length is not 7
@@ -188,13 +232,14 @@ uint8_t fj_run_event(uint8_t *run, size_t run_len, uint8_t k, uint8_t s, uint8_t
  *   12  the version is not 1
  *   13  K is unknown
  *   14  a field is outside its range
+ * The next record starts at at + FJ_RECORD.
  */
 uint8_t fj_record_read(const uint8_t *journal, size_t journal_len, size_t at,
                        uint8_t *fields, size_t fields_len);
 
 /*
- * Writes a record into the nine bytes from `at` on. Returns 0, or the refusal with the room as it
- * was:
+ * Writes a record into the nine bytes of room from the byte `at` on; `at` may be any number.
+ * Returns 0, or the refusal with the room as it was:
  *   13  k is unknown
  *   14  a field is outside its range
  *   15  fewer than 9 bytes are left from `at` on
@@ -204,8 +249,9 @@ uint8_t fj_record_write(uint8_t k, uint8_t s, uint8_t o, uint8_t m, uint8_t v, u
 
 /*
  * Rehearses a journal: one byte n, then records. Puts the text (a line for each record, and the
- * letters of the sites) at the front of text and returns its length. Only the first 65,536 bytes
- * of the input are taken. Returns 0, with nothing written, where the room has fewer bytes than
+ * letters of the sites) at the front of text and returns its length; there is no 0 byte at its end.
+ * Only the first 65,536 bytes of the input are taken. A journal that cannot be read is told in the
+ * text, as docs/RULES.md has it. Returns 0, with nothing written, where text has fewer bytes than
  * FJ_REHEARSAL_ROOM(input_len); 189344 bytes are enough for every input.
  */
 size_t fj_rehearse(const uint8_t *input, size_t input_len, uint8_t *text, size_t text_len);
@@ -226,8 +272,9 @@ size_t fj_rehearse(const uint8_t *input, size_t input_len, uint8_t *text, size_t
  * Judges a sheet. Returns 0 or the refusal: 15 first of all, for fewer than 206 bytes of out, with
  * nothing written; then 20 to 31 in order.
  *
- * Accepted, the first 4,096 words are the reachable global states, ascending, and then zeros. 20
- * to 29 leave the words, 30 and 31 set the first 4,096 to zero.
+ * words: at least 4,096 words, with any content. Accepted, the first 4,096 are the reachable global
+ * states, ascending, and then zeros. 20 to 29 leave the words, 30 and 31 set the first 4,096 to
+ * zero. Later words are never touched.
  *
  * Written to the first 206 bytes of out, all zeros after 20 to 31:
  *     0        sites
@@ -246,9 +293,10 @@ uint8_t fj_sheet_judge(const uint8_t *sheet, size_t sheet_len, uint64_t *words, 
                        uint8_t *out, size_t out_len);
 
 /*
- * The report on a sheet as text, at the front of text; `refused N` for a refused one. Returns its
- * length, and leaves the words as the judge leaves them. Returns 0, with nothing touched, where
- * the room has fewer than FJ_REPORT_ROOM bytes.
+ * The report on a sheet as text, at the front of text; `refused N` for a refused one, `refused 20`
+ * where fewer than 4,096 words are lent. Returns its length, and leaves the words as the judge
+ * leaves them; there is no 0 byte at its end. Returns 0, with nothing touched, where text has fewer
+ * than FJ_REPORT_ROOM bytes.
  */
 size_t fj_sheet_report(const uint8_t *sheet, size_t sheet_len, uint64_t *words, size_t words_len,
                        uint8_t *text, size_t text_len);

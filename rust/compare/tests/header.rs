@@ -1,0 +1,110 @@
+//! What include/fjadrimor.h tells a C programmer: its numbers are the library's, and the stack that
+//! it asks for is enough.
+
+use compare::inputs::journals::Journals;
+use compare::inputs::sheets::product;
+use compare::inputs::Random;
+use fjadrimor::{calls, Refusal};
+use std::collections::BTreeSet;
+
+const HEADER: &str = include_str!("../../../include/fjadrimor.h");
+
+/// The number of an enumerator.
+fn number(name: &str) -> usize {
+    let start = format!("{name} = ");
+    let after = HEADER.split(&start).nth(1).unwrap_or_else(|| panic!("{name} is not there"));
+    let digits = after.find(|c: char| !c.is_ascii_digit()).unwrap_or(after.len());
+    after[..digits].parse().expect("a number")
+}
+
+#[test]
+fn grounds_are_the_refusals() {
+    let (_, rest) = HEADER.split_once("/* Grounds for refusal").expect("the grounds");
+    let (grounds, _) = rest.split_once("};").expect("the end of the enum");
+    let names = grounds.lines().filter_map(|line| line.split_once(" = ").map(|(name, _)| name));
+    let numbers: BTreeSet<usize> = names.map(|name| number(name.trim())).collect();
+    let refusals = Refusal::ALL.iter().map(|refusal| usize::from(refusal.number()));
+    assert_eq!(numbers, refusals.collect());
+}
+
+/// A call that asks for so much room is refused with 15, or returns 0, where there is less.
+fn needs(name: &str, short: usize, called: impl Fn(&mut [u8]) -> usize) {
+    let least = number(name);
+    assert_eq!(called(&mut vec![0; least - 1]), short, "{name} less one");
+    assert_ne!(called(&mut vec![0; least]), short, "{name}");
+}
+
+#[test]
+fn rooms_are_as_large_as_said() {
+    let site = |room: &mut [u8]| calls::site_step(&mut [0; 8], 1, 0, 0, 1, room).into();
+    needs("FJ_SITE_ANSWER", 15, site);
+    let event = |room: &mut [u8]| calls::run_event(&mut [0; 138], 6, 1, 0, 0, 0, 0, room).into();
+    needs("FJ_RUN_ANSWER", 15, event);
+    needs("FJ_FIELDS", 15, |room| calls::record_read(&[], 0, room).into());
+    needs("FJ_RECORD", 15, |room| calls::record_write(6, 1, 0, 0, 0, 0, room, 0).into());
+    needs("FJ_RUN", 15, |room| calls::run_fresh(2, room).into());
+    needs("FJ_VERDICT", 15, |room| calls::sheet_judge(&[], &mut [], room).into());
+    needs("FJ_REPORT_ROOM", 0, |room| calls::sheet_report(&[], &mut [], room));
+    let words = number("FJ_WORDS");
+    let judged = |words| calls::sheet_judge(&[], &mut vec![0; words], &mut [0; 206]);
+    assert_eq!((judged(words - 1), judged(words)), (20, 21));
+}
+
+#[test]
+fn a_rehearsal_needs_the_room_that_the_macro_gives() {
+    let formula = "(38 + 26 * (((size) < 65536 ? (size) : 65536) / 9))";
+    assert!(HEADER.contains(formula));
+    for size in [0, 1, 9, 10, 65_535, 65_536, 65_537, 70_000] {
+        let least = 38 + 26 * (size.min(65_536) / 9);
+        let rehearsed = |room: usize| calls::rehearse(&vec![2; size], &mut vec![0; room]);
+        assert_eq!(rehearsed(least - 1), 0, "{size}");
+        assert_ne!(rehearsed(least), 0, "{size}");
+    }
+    assert!(HEADER.contains(&format!("{} bytes are enough", 38 + 26 * (65_536 / 9))));
+}
+
+#[test]
+fn parts_stand_where_the_header_says() {
+    let at = |name: &str| number(name);
+    let (mut site, mut answer) = ([3, 1, 0, 1, 0, 0, 0, 0], [9; 5]);
+    assert_eq!(calls::site_step(&mut site, 1, 0, 0, 1, &mut answer), 0);
+    let parts = ["OUTCOME", "KIND", "RECEIVERS", "WRITTEN", "AWAITED"];
+    let told = parts.map(|part| answer[at(&format!("FJ_STEP_{part}"))]);
+    assert_eq!(told, [0, number("FJ_START") as u8, 0b110, 2, 2]);
+    let parts = ["N", "NUMBER", "STATE", "LEADER", "KNOWN", "YES", "NO", "ACKED"];
+    let held = parts.map(|part| site[at(&format!("FJ_SITE_{part}"))]);
+    assert_eq!(held, [3, 1, number("FJ_W") as u8, 1, 0, 0, 0, 0]);
+    let (mut run, mut answer) = ([0; 138], [9; 3]);
+    assert_eq!(calls::run_fresh(3, &mut run), 0);
+    assert_eq!(calls::run_event(&mut run, 1, 1, 0, 0, 1, 0, &mut answer), 0);
+    let told =
+        ["OUTCOME", "WRITTEN", "AWAITED"].map(|part| answer[at(&format!("FJ_EVENT_{part}"))]);
+    assert_eq!(told, [0, 2, 2]);
+}
+
+/// Runs in a thread that has no more stack than the header asks for.
+fn with_little_stack(work: impl FnOnce() + Send + 'static) {
+    assert!(HEADER.contains("less than 64 KB of stack"));
+    let thread = std::thread::Builder::new().stack_size(64 << 10);
+    thread.spawn(work).expect("a thread").join().expect("the calls end");
+}
+
+#[test]
+fn the_stack_is_enough() {
+    let journal = Journals::default().valid(&mut Random::new(61), 8, 7281);
+    let sheet = product(&[8; 4], false).bytes();
+    let (mut words, mut text) = (vec![0; 4096], vec![0; 200_000]);
+    let (mut run, mut site) = ([0; 138], [8, 1, 0, 1, 0, 0, 0, 0]);
+    with_little_stack(move || {
+        calls::site_step(&mut site, 1, 0, 0, 1, &mut [0; 5]);
+        calls::run_fresh(8, &mut run);
+        for k in [1, 17] {
+            calls::run_event(&mut run, k, 1, 0, 0, 1, 0, &mut [0; 3]);
+        }
+        calls::record_read(&journal, 1, &mut [0; 6]);
+        calls::record_write(6, 1, 0, 0, 0, 0, &mut [0; 9], 0);
+        calls::rehearse(&journal, &mut text);
+        calls::sheet_judge(&sheet, &mut words, &mut [0; 206]);
+        calls::sheet_report(&sheet, &mut words, &mut text);
+    });
+}
