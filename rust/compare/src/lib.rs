@@ -11,3 +11,8 @@ pub mod tally;
 
 #[cfg(test)]
 mod figure_tests;
+
+/// The Rust in README.md compiles and runs as it stands there.
+#[cfg(doctest)]
+#[doc = include_str!("../../../README.md")]
+struct Readme;
