@@ -38,7 +38,10 @@ fn table(rows: &[Row]) -> bool {
         return false;
     }
     print_head();
-    rows.iter().for_each(Row::print);
+    let ratios = rows.iter().map(|row| (row.print(), &row.name));
+    if let Some((ratio, name)) = ratios.max_by(|a, b| a.0.total_cmp(&b.0)) {
+        println!("the largest ratio is {ratio:.2}, of {name}");
+    }
     true
 }
 

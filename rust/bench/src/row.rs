@@ -61,18 +61,20 @@ impl Row {
         (library.units, best.0, best.1)
     }
 
-    /// Times both sides and prints the line.
-    pub fn print(&self) {
+    /// Times both sides, prints the line, and hands back the ratio.
+    pub fn print(&self) -> f64 {
         let (units, library, plain) = self.best();
         let each = |time: Duration| time.as_secs_f64() * 1e9 / f64::from(units);
+        let ratio = library.as_secs_f64() / plain.as_secs_f64();
         println!(
             "{:<24}{:<8}{:>12.1}{:>12.1}{:>8.2}",
             self.name,
             self.unit,
             each(library),
             each(plain),
-            library.as_secs_f64() / plain.as_secs_f64()
+            ratio
         );
+        ratio
     }
 
     /// Does the work of one side once; hands back how many units it had.
