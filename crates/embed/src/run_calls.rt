@@ -4,16 +4,18 @@ ghost use mathlib.Core.Path.{_≡_};
 ghost use mathlib.Core.List.{_∷_, _++_, flatMap};
 ghost use Prim.Native.Nat.{_≤_};
 ghost use lib.ListN.{length, take, drop};
-ghost use Rattle.embed.specs.Bytes.{siteBytes, leaves, leavesBoth};
-ghost use Rattle.embed.specs.RunCalls.{isRun, runFrom, runBytes, freshCall, ranBytes, runCall};
+ghost use Rattle.embed.specs.Bytes.{siteBytes, outcomeByte, leaves, leavesBoth};
+ghost use Rattle.embed.specs.RunCalls.{isRun, runFrom, runBytes, freshCall, ranLeaves, runCall};
+ghost use Rattle.run.specs.Event.{eventOf};
 use crate::site_calls::outcome_byte;
 use crate::site_calls::put_site;
 use crate::site_calls::site_from;
 use fields::Fields;
 use fields::Made;
 use fields::event_of;
-use run::Ran;
+use run::Event;
 use run::Run;
+use site::Counts;
 use site::Outcome;
 use site::Site;
 
@@ -114,9 +116,8 @@ pub extern "C" fn fj_run_fresh(n: u8, run: &mut [u8]) -> u8
         return 15;
     }
     let made = run::fresh(n);
+    put_run(run, made.run);
     let outcome = made.outcome;
-    let next = made.run;
-    put_run(run, next);
     if let Outcome::Refused(ground) = outcome {
         return ground;
     }
@@ -134,15 +135,28 @@ fn refuse(room: &mut [u8], ground: u8) -> u8
     ground
 }
 
-fn put_ran(room: &mut [u8], ran: Ran)
+fn put_ran(room: &mut [u8], outcome: Outcome, counts: Counts)
     requires { ⌜ 3 ≤ length (now room) ⌝ }
-    ensures { λ _. ⌜ now (room .exit) ≡ ranBytes ran ++ drop 3 (now (room .entry)) ⌝ }
+    ensures { λ _. ⌜ now (room .exit) ≡ outcomeByte outcome ∷ counts .written ∷ counts .awaited ∷ drop 3 (now (room .entry)) ⌝ }
 {
-    let outcome = ran.outcome;
-    let counts = ran.counts;
     room[0] = outcome_byte(outcome);
     room[1] = counts.written;
     room[2] = counts.awaited;
+}
+
+// An event happens to the run whose bytes these are. Returns 0 or the event's own refusal.
+fn happen(run: &mut [u8], event: Event, answer: &mut [u8]) -> u8
+    requires { ⌜ (length (now run) ≡ 138) × (3 ≤ length (now answer)) ⌝ }
+    ensures { λ r. ⌜ leavesBoth r (now (run .exit)) (now (answer .exit)) ≡ ranLeaves (eventOf (runFrom (now (run .entry))) event) (now (run .entry)) (now (answer .entry)) ⌝ }
+{
+    let ran = run_from(run).happens(event);
+    let outcome = ran.outcome;
+    put_ran(answer, outcome, ran.counts);
+    if let Outcome::Refused(ground) = outcome {
+        return ground;
+    }
+    put_run(run, ran.run);
+    0
 }
 
 // One event of a run. Returns 0 or the refusal.
@@ -167,17 +181,7 @@ pub extern "C" fn fj_run_event(
     }
     let made = event_of(Fields { k, s, o, m, v, x });
     match made {
-        Made::Good(event) => {
-            let ran = run_from(run).happens(event);
-            put_ran(answer, ran);
-            let outcome = ran.outcome;
-            if let Outcome::Refused(ground) = outcome {
-                return ground;
-            }
-            let next = ran.run;
-            put_run(run, next);
-            0
-        }
+        Made::Good(event) => happen(run, event, answer),
         Made::Bad(ground) => refuse(answer, ground),
     }
 }

@@ -5,7 +5,8 @@ ghost use mathlib.Core.List.{_∷_, _++_};
 ghost use Prim.Native.Nat.{_+_, _≤_};
 ghost use lib.ListN.{length, drop};
 ghost use Rattle.embed.specs.Bytes.{stateByte, stateFrom, siteBytes, siteFrom, outcomeByte, leavesBoth};
-ghost use Rattle.embed.specs.SiteCall.{isRecord, stepTold, answerBytes, siteCall};
+ghost use Rattle.embed.specs.SiteCall.{isRecord, stepIn, stepTold, answerBytes, stepLeaves, siteCall};
+ghost use Rattle.site.specs.Step.{stepOf};
 use fields::Fields;
 use fields::Made;
 use fields::event_of;
@@ -99,6 +100,20 @@ enum Told {
     Bad(u8),
 }
 
+// What K S O M V X tell, as a step.
+fn step_in(made: Made) -> Told
+    ensures { λ r. ⌜ r ≡ stepIn made ⌝ }
+{
+    match made {
+        Made::Good(event) => match event {
+            Event::Act(_, step) => Told::Good(step),
+            Event::Stop(_) => Told::Bad(13),
+            Event::Cut(_, _, _) => Told::Bad(13),
+        },
+        Made::Bad(ground) => Told::Bad(ground),
+    }
+}
+
 fn step_told(k: u8, o: u8, m: u8, v: u8) -> Told
     ensures { λ r. ⌜ r ≡ stepTold k o m v ⌝ }
 {
@@ -108,22 +123,14 @@ fn step_told(k: u8, o: u8, m: u8, v: u8) -> Told
     if 5 < k {
         return Told::Bad(13);
     }
-    let made = event_of(Fields {
+    step_in(event_of(Fields {
         k,
         s: 0,
         o,
         m,
         v,
         x: 0,
-    });
-    match made {
-        Made::Good(event) => match event {
-            Event::Act(_, step) => Told::Good(step),
-            Event::Stop(_) => Told::Bad(13),
-            Event::Cut(_, _, _) => Told::Bad(13),
-        },
-        Made::Bad(ground) => Told::Bad(ground),
-    }
+    }))
 }
 
 // The answer of a step that was not tried. Returns the refusal.
@@ -144,12 +151,26 @@ fn put_answer(room: &mut [u8], answer: Answer)
     ensures { λ _. ⌜ now (room .exit) ≡ answerBytes answer ++ drop 5 (now (room .entry)) ⌝ }
 {
     let outcome = answer.outcome;
-    let counts = answer.counts;
     room[0] = outcome_byte(outcome);
     room[1] = answer.kind;
     room[2] = answer.to;
-    room[3] = counts.written;
-    room[4] = counts.awaited;
+    room[3] = answer.counts.written;
+    room[4] = answer.counts.awaited;
+}
+
+// A step of the site whose bytes these are. Returns 0 or the step's own refusal.
+fn take(site: &mut [u8], step: Step, answer: &mut [u8]) -> u8
+    requires { ⌜ (length (now site) ≡ 8) × (5 ≤ length (now answer)) ⌝ }
+    ensures { λ r. ⌜ leavesBoth r (now (site .exit)) (now (answer .exit)) ≡ stepLeaves (stepOf (siteFrom (now (site .entry)) 0) step) (now (site .entry)) (now (answer .entry)) ⌝ }
+{
+    let given = site_from(site, 0).step(step);
+    put_answer(answer, given);
+    let outcome = given.outcome;
+    if let Outcome::Refused(ground) = outcome {
+        return ground;
+    }
+    put_site(site, given.site);
+    0
 }
 
 // One step of a site. Returns 0 or the refusal.
@@ -165,17 +186,7 @@ pub extern "C" fn fj_site_step(site: &mut [u8], k: u8, o: u8, m: u8, v: u8, answ
     }
     let told = step_told(k, o, m, v);
     match told {
-        Told::Good(step) => {
-            let given = site_from(site, 0).step(step);
-            put_answer(answer, given);
-            let outcome = given.outcome;
-            if let Outcome::Refused(ground) = outcome {
-                return ground;
-            }
-            let next = given.site;
-            put_site(site, next);
-            0
-        }
+        Told::Good(step) => take(site, step, answer),
         Told::Bad(ground) => refuse(answer, ground),
     }
 }

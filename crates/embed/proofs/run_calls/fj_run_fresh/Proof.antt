@@ -1,6 +1,6 @@
 -- `embed::run_calls::fj_run_fresh` meets its contract.
 -- Assumes nothing.
-use mathlib.Core.Path.{_≡_, refl, sym, ap, _∙_}
+use mathlib.Core.Path.{_≡_, sym, ap}
 use borrow.Author.Tests.{eq-eqb, ne-eqb}
 use Prim.Native.Nat.{ℕ}
 use Rattle.site.specs.declared.Outcome.{Outcome}
@@ -29,14 +29,14 @@ same-length c = search needs
 
 returns-2 : tie.Need-returns-2
 unfolding freshCall
-returns-2 c = simp (eq-eqb _ _ (c .before .before .before .before .before .before .before .before .before .if1 .left), ← c .before .before .before .before .before .before .before .before .fresh .ensures, c .before .before .before .before .before .put-run .ensures) (ap (λ (o : Outcome). leaves (refusalOf o) (runBytes (c .before .before .before .before .before .before .before .before .fresh .result .run))) (sym (c .before .outcome .given .1)))
+returns-2 c = simp (eq-eqb _ _ (c .before .before .before .before .before .before .before .before .if1 .left), ← c .before .before .before .before .before .before .before .fresh .ensures, c .before .before .before .before .before .put-run .ensures) (ap (λ (o : Outcome). leaves (refusalOf o) (runBytes (c .before .before .before .before .before .before .before .fresh .result .run))) (sym (c .before .outcome .given .1)))
 
 same-length-2 : tie.Need-same-length-2
 same-length-2 c = search needs
 
 returns-3 : tie.Need-returns-3
 unfolding freshCall
-returns-3 c = simp (eq-eqb _ _ (c .before .before .before .before .before .before .before .if1 .left), ← c .before .before .before .before .before .before .fresh .ensures, c .before .before .before .put-run .ensures) (ap (λ (r : ℕ). leaves r (runBytes (c .before .before .before .before .before .before .fresh .result .run))) (accepted-zero (c .before .before .before .before .before .before .fresh .result .outcome) (c .match .keys2)))
+returns-3 c = simp (eq-eqb _ _ (c .before .before .before .before .before .before .if1 .left), ← c .before .before .before .before .before .fresh .ensures, c .before .before .before .put-run .ensures) (ap (λ (r : ℕ). leaves r (runBytes (c .before .before .before .before .before .fresh .result .run))) (accepted-zero (c .before .before .before .before .before .fresh .result .outcome) (c .match .keys2)))
 
 pub fj-run-fresh-spec : {M : Type 1} → statement M
 fj-run-fresh-spec =

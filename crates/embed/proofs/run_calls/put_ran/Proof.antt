@@ -2,10 +2,9 @@
 -- Assumes nothing.
 use native.Mathlib.Omega.{arith}
 use mathlib.Core.List.{[], _∷_}
-use mathlib.Core.Path.{refl}
 use lib.ListN.{length-set}
 use lib.Seq.{sets, sets-eq}
-use Rattle.embed.specs.RunCalls.{ranBytes}
+use Rattle.embed.specs.Bytes.{outcomeByte}
 use borrow.Author.Needs.{needs}
 use Rattle.embed.proofs.run_calls.put_ran.Statement.{statement}
 use Rattle.embed.proofs.run_calls.put_ran.Tie as tie
@@ -26,8 +25,7 @@ same-length : tie.Need-same-length
 same-length c = search needs
 
 returns : tie.Need-returns
-unfolding ranBytes
-returns c = simp (c .outcome-byte .ensures) (sets-eq (ranBytes (c .before .before .before .args .ran)) (c .before .before .before .args .room .now) 0 (c .before .before .before .pre))
+returns c = simp (c .outcome-byte .ensures) (sets-eq (outcomeByte (c .before .before .args .outcome) ∷ c .before .before .args .counts .written ∷ c .before .before .args .counts .awaited ∷ []) (c .before .before .args .room .now) 0 (c .before .before .pre))
 
 pub put-ran-spec : {M : Type 1} → statement M
 put-ran-spec =

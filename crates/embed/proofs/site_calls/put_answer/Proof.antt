@@ -31,7 +31,7 @@ same-length c = search needs
 
 returns : tie.Need-returns
 unfolding answerBytes
-returns c = simp (c .outcome-byte .ensures) (sets-eq (answerBytes (c .before .before .before .args .answer)) (c .before .before .before .args .room .now) 0 (c .before .before .before .pre))
+returns c = simp (c .outcome-byte .ensures) (sets-eq (answerBytes (c .before .before .args .answer)) (c .before .before .args .room .now) 0 (c .before .before .pre))
 
 pub put-answer-spec : {M : Type 1} → statement M
 put-answer-spec =
