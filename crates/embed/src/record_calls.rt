@@ -4,26 +4,24 @@ ghost use mathlib.Core.Path.{_≡_};
 ghost use mathlib.Core.List.{_++_};
 ghost use Prim.Native.Nat.{_≤_};
 ghost use lib.ListN.{length, drop};
-ghost use Rattle.journal.specs.Record.{bodyOf};
+ghost use Rattle.journal.specs.Record.{bodyOf, fieldsIn};
 ghost use Rattle.embed.specs.Bytes.{leaves};
 ghost use Rattle.embed.specs.RecordCalls.{readCall, writeCall, rehearseCall};
 use fields::Fields;
 use fields::Made;
 use fields::event_of;
-use fields::fields_of;
-use journal::Found;
 
-// K S O M V X, put at the front of a part.
-fn put_fields(room: &mut [u8], f: Fields)
-    requires { ⌜ 6 ≤ length (now room) ⌝ }
-    ensures { λ _. ⌜ now (room .exit) ≡ bodyOf f ++ drop 6 (now (room .entry)) ⌝ }
+// The body of a record, K S O M V X, copied to the front of a part.
+fn copy_body(to: &mut [u8], body: &[u8])
+    requires { ⌜ (6 ≤ length (now to)) × (6 ≤ length (now body)) ⌝ }
+    ensures { λ _. ⌜ now (to .exit) ≡ bodyOf (fieldsIn (now (body .entry))) ++ drop 6 (now (to .entry)) ⌝ }
 {
-    room[0] = f.k;
-    room[1] = f.s;
-    room[2] = f.o;
-    room[3] = f.m;
-    room[4] = f.v;
-    room[5] = f.x;
+    to[0] = body[0];
+    to[1] = body[1];
+    to[2] = body[2];
+    to[3] = body[3];
+    to[4] = body[4];
+    to[5] = body[5];
 }
 
 // The fields of the record at a place of a journal. Returns 0 or the refusal.
@@ -34,15 +32,13 @@ pub extern "C" fn fj_record_read(journal: &[u8], at: usize, fields: &mut [u8]) -
     if fields.len() < 6 {
         return 15;
     }
-    let found = journal::read_at(journal, at);
-    match found {
-        Found::Good(record) => {
-            let event = record.event;
-            put_fields(fields, fields_of(event));
-            0
-        }
-        Found::Bad(ground) => ground,
+    let ground = journal::ground_at(journal, at);
+    if ground != 0 {
+        return ground;
     }
+    let from = at + 3;
+    copy_body(fields, &journal[from..]);
+    0
 }
 
 // The record of these fields, written into the nine bytes from a place on. Returns 0 or the refusal.
