@@ -8,8 +8,6 @@ ghost use Rattle.journal.specs.Record.{bodyOf, fieldsIn};
 ghost use Rattle.embed.specs.Bytes.{leaves};
 ghost use Rattle.embed.specs.RecordCalls.{readCall, writeCall, rehearseCall};
 use fields::Fields;
-use fields::Made;
-use fields::event_of;
 
 // The body of a record, K S O M V X, copied to the front of a part.
 fn copy_body(to: &mut [u8], body: &[u8])
@@ -55,11 +53,7 @@ pub extern "C" fn fj_record_write(
 ) -> u8
     ensures { λ r. ⌜ leaves r (now (room .exit)) ≡ writeCall k s o m v x (now (room .entry)) at ⌝ }
 {
-    let made = event_of(Fields { k, s, o, m, v, x });
-    match made {
-        Made::Good(event) => journal::write_at(room, at, event),
-        Made::Bad(ground) => ground,
-    }
+    journal::write_fields_at(room, at, Fields { k, s, o, m, v, x })
 }
 
 // The rehearsal's text for a journal. Returns its length, 0 where the room is too small.
