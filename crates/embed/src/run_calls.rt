@@ -5,8 +5,9 @@ ghost use mathlib.Core.List.{_∷_, _++_, flatMap};
 ghost use Prim.Native.Nat.{_≤_};
 ghost use lib.ListN.{length, take, drop};
 ghost use Rattle.embed.specs.Bytes.{siteBytes, outcomeByte, leaves, leavesBoth};
-ghost use Rattle.embed.specs.RunCalls.{isRun, runFrom, runBytes, freshCall, ranLeaves, runCall};
+ghost use Rattle.embed.specs.RunCalls.{isRun, runFrom, runBytes, freshCall, ranLeaves, happening, runCall};
 ghost use Rattle.run.specs.Event.{eventOf};
+ghost use Rattle.fields.specs.Fields.{eventFrom};
 use crate::site_calls::outcome_byte;
 use crate::site_calls::put_site;
 use crate::site_calls::site_from;
@@ -144,8 +145,8 @@ fn put_ran(room: &mut [u8], outcome: Outcome, counts: Counts)
     room[2] = counts.awaited;
 }
 
-// An event happens to the run whose bytes these are. Returns 0 or the event's own refusal.
-fn happen(run: &mut [u8], event: Event, answer: &mut [u8]) -> u8
+// An event of the run whose bytes these are. Returns 0 or the event's own refusal.
+fn take_event(run: &mut [u8], event: Event, answer: &mut [u8]) -> u8
     requires { ⌜ (length (now run) ≡ 138) × (3 ≤ length (now answer)) ⌝ }
     ensures { λ r. ⌜ leavesBoth r (now (run .exit)) (now (answer .exit)) ≡ ranLeaves (eventOf (runFrom (now (run .entry))) event) (now (run .entry)) (now (answer .entry)) ⌝ }
 {
@@ -157,6 +158,18 @@ fn happen(run: &mut [u8], event: Event, answer: &mut [u8]) -> u8
     }
     put_run(run, ran.run);
     0
+}
+
+// The event that the fields tell, or 13 or 14. Returns 0 or the refusal.
+fn take_fields(run: &mut [u8], fields: Fields, answer: &mut [u8]) -> u8
+    requires { ⌜ (length (now run) ≡ 138) × (3 ≤ length (now answer)) ⌝ }
+    ensures { λ r. ⌜ leavesBoth r (now (run .exit)) (now (answer .exit)) ≡ happening (eventFrom fields) (now (run .entry)) (now (answer .entry)) ⌝ }
+{
+    let made = event_of(fields);
+    match made {
+        Made::Good(event) => take_event(run, event, answer),
+        Made::Bad(ground) => refuse(answer, ground),
+    }
 }
 
 // One event of a run. Returns 0 or the refusal.
@@ -179,9 +192,5 @@ pub extern "C" fn fj_run_event(
     if !is_run(run) {
         return refuse(answer, 1);
     }
-    let made = event_of(Fields { k, s, o, m, v, x });
-    match made {
-        Made::Good(event) => happen(run, event, answer),
-        Made::Bad(ground) => refuse(answer, ground),
-    }
+    take_fields(run, Fields { k, s, o, m, v, x }, answer)
 }

@@ -5,8 +5,9 @@ ghost use mathlib.Core.List.{_∷_, _++_};
 ghost use Prim.Native.Nat.{_+_, _≤_};
 ghost use lib.ListN.{length, drop};
 ghost use Rattle.embed.specs.Bytes.{stateByte, stateFrom, siteBytes, siteFrom, outcomeByte, leavesBoth};
-ghost use Rattle.embed.specs.SiteCall.{isRecord, stepIn, stepTold, answerBytes, stepLeaves, siteCall};
+ghost use Rattle.embed.specs.SiteCall.{isRecord, stepIn, stepTold, answerBytes, stepLeaves, stepping, siteCall};
 ghost use Rattle.site.specs.Step.{stepOf};
+ghost use Rattle.fields.specs.Fields.{eventFrom};
 use fields::Fields;
 use fields::Made;
 use fields::event_of;
@@ -56,15 +57,16 @@ pub(crate) fn site_from(bytes: &[u8], at: usize) -> Site
     requires { ⌜ at + 8 ≤ length (now bytes) ⌝ }
     ensures { λ r. ⌜ r ≡ siteFrom (now (bytes .entry)) at ⌝ }
 {
+    let part = &bytes[at..];
     Site {
-        n: bytes[at],
-        number: bytes[at + 1],
-        state: state_from(bytes[at + 2]),
-        leader: bytes[at + 3],
-        known: bytes[at + 4],
-        yes: bytes[at + 5],
-        no: bytes[at + 6],
-        acked: bytes[at + 7],
+        n: part[0],
+        number: part[1],
+        state: state_from(part[2]),
+        leader: part[3],
+        known: part[4],
+        yes: part[5],
+        no: part[6],
+        acked: part[7],
     }
 }
 
@@ -100,10 +102,11 @@ enum Told {
     Bad(u8),
 }
 
-// What K S O M V X tell, as a step.
-fn step_in(made: Made) -> Told
-    ensures { λ r. ⌜ r ≡ stepIn made ⌝ }
+// The step that the fields tell of any site.
+fn step_in(fields: Fields) -> Told
+    ensures { λ r. ⌜ r ≡ stepIn (eventFrom fields) ⌝ }
 {
+    let made = event_of(fields);
     match made {
         Made::Good(event) => match event {
             Event::Act(_, step) => Told::Good(step),
@@ -123,14 +126,14 @@ fn step_told(k: u8, o: u8, m: u8, v: u8) -> Told
     if 5 < k {
         return Told::Bad(13);
     }
-    step_in(event_of(Fields {
+    step_in(Fields {
         k,
         s: 0,
         o,
         m,
         v,
         x: 0,
-    }))
+    })
 }
 
 // The answer of a step that was not tried. Returns the refusal.
@@ -159,7 +162,7 @@ fn put_answer(room: &mut [u8], answer: Answer)
 }
 
 // A step of the site whose bytes these are. Returns 0 or the step's own refusal.
-fn take(site: &mut [u8], step: Step, answer: &mut [u8]) -> u8
+fn take_step(site: &mut [u8], step: Step, answer: &mut [u8]) -> u8
     requires { ⌜ (length (now site) ≡ 8) × (5 ≤ length (now answer)) ⌝ }
     ensures { λ r. ⌜ leavesBoth r (now (site .exit)) (now (answer .exit)) ≡ stepLeaves (stepOf (siteFrom (now (site .entry)) 0) step) (now (site .entry)) (now (answer .entry)) ⌝ }
 {
@@ -173,6 +176,17 @@ fn take(site: &mut [u8], step: Step, answer: &mut [u8]) -> u8
     0
 }
 
+// The step that was told, or 13 or 14. Returns 0 or the refusal.
+fn take_told(site: &mut [u8], told: Told, answer: &mut [u8]) -> u8
+    requires { ⌜ (length (now site) ≡ 8) × (5 ≤ length (now answer)) ⌝ }
+    ensures { λ r. ⌜ leavesBoth r (now (site .exit)) (now (answer .exit)) ≡ stepping told (now (site .entry)) (now (answer .entry)) ⌝ }
+{
+    match told {
+        Told::Good(step) => take_step(site, step, answer),
+        Told::Bad(ground) => refuse(answer, ground),
+    }
+}
+
 // One step of a site. Returns 0 or the refusal.
 #[no_mangle]
 pub extern "C" fn fj_site_step(site: &mut [u8], k: u8, o: u8, m: u8, v: u8, answer: &mut [u8]) -> u8
@@ -184,9 +198,5 @@ pub extern "C" fn fj_site_step(site: &mut [u8], k: u8, o: u8, m: u8, v: u8, answ
     if !is_record(site) {
         return refuse(answer, 1);
     }
-    let told = step_told(k, o, m, v);
-    match told {
-        Told::Good(step) => take(site, step, answer),
-        Told::Bad(ground) => refuse(answer, ground),
-    }
+    take_told(site, step_told(k, o, m, v), answer)
 }

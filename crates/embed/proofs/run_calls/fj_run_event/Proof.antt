@@ -28,20 +28,8 @@ returns-2 : tie.Need-returns-2
 unfolding runCall
 returns-2 c = simp (le-ltb _ _ (c .before .before .before .before .before .before .before .if1 .left), sym (c .before .before .before .before .before .is-run .ensures) ∙ not-true _ (c .before .before .before .before .if2 .taken), c .before .before .refuse .ensures .0, c .before .before .refuse .ensures .1)
 
-event-of-requires : tie.Need-event-of-requires
-event-of-requires c κs = search needs
-
-enum-known-made : tie.Need-enum-known-made
-enum-known-made c = search needs
-
-happen-requires : tie.Need-happen-requires
-happen-requires c κs = (run-length _ (sym (c .before .before .before .before .before .before .before .is-run .ensures) ∙ not-false _ (c .before .before .before .before .before .before .if2 .left)), search needs)
-
-enum-known-made-2 : tie.Need-enum-known-made-2
-enum-known-made-2 c = search needs
-
-refuse-requires-2 : tie.Need-refuse-requires-2
-refuse-requires-2 c κs = search needs
+take-fields-requires : tie.Need-take-fields-requires
+take-fields-requires c κs = (run-length _ (sym (c .before .before .before .is-run .ensures) ∙ not-false _ (c .before .before .if2 .left)), search needs)
 
 same-length-3 : tie.Need-same-length-3
 same-length-3 c = search needs
@@ -51,17 +39,7 @@ same-length-4 c = search needs
 
 returns-3 : tie.Need-returns-3
 unfolding runCall
-returns-3 c = simp (le-ltb _ _ (c .before .before .before .before .before .before .before .before .before .before .before .before .before .before .if1 .left), sym (c .before .before .before .before .before .before .before .before .before .before .before .before .is-run .ensures) ∙ not-false _ (c .before .before .before .before .before .before .before .before .before .before .before .if2 .left), sym (c .before .before .before .before .before .before .before .before .before .before .event-of .ensures) ∙ c .before .before .before .before .before .before .before .before .made .given .1) (c .before .before .before .before .happen .ensures)
-
-same-length-5 : tie.Need-same-length-5
-same-length-5 c = search needs
-
-same-length-6 : tie.Need-same-length-6
-same-length-6 c = search needs
-
-returns-4 : tie.Need-returns-4
-unfolding runCall
-returns-4 c = simp (le-ltb _ _ (c .before .before .before .before .before .before .before .before .before .before .before .if1 .left), sym (c .before .before .before .before .before .before .before .before .before .is-run .ensures) ∙ not-false _ (c .before .before .before .before .before .before .before .before .if2 .left), sym (c .before .before .before .before .before .before .before .event-of .ensures) ∙ c .before .before .before .before .before .made2 .given .1, c .before .before .refuse2 .ensures .0, c .before .before .refuse2 .ensures .1)
+returns-3 c = simp (le-ltb _ _ (c .before .before .before .before .before .before .before .before .before .before .if1 .left), sym (c .before .before .before .before .before .before .before .before .is-run .ensures) ∙ not-false _ (c .before .before .before .before .before .before .before .if2 .left)) (c .before .before .before .before .take-fields .ensures)
 
 pub fj-run-event-spec : {M : Type 1} → statement M
 fj-run-event-spec =
@@ -73,14 +51,7 @@ fj-run-event-spec =
     same-length
     same-length-2
     returns-2
-    event-of-requires
-    enum-known-made
-    happen-requires
-    enum-known-made-2
-    refuse-requires-2
+    take-fields-requires
     same-length-3
     same-length-4
-    returns-3
-    same-length-5
-    same-length-6
-    returns-4)
+    returns-3)

@@ -31,17 +31,8 @@ returns-2 c = simp (le-ltb _ _ (c .before .before .before .before .before .befor
 step-told-requires : tie.Need-step-told-requires
 step-told-requires c κs = search needs
 
-enum-known-told : tie.Need-enum-known-told
-enum-known-told c = search needs
-
-take-requires : tie.Need-take-requires
-take-requires c κs = (record-length _ (sym (c .before .before .before .before .before .before .before .is-record .ensures) ∙ not-false _ (c .before .before .before .before .before .before .if2 .left)), search needs)
-
-enum-known-told-2 : tie.Need-enum-known-told-2
-enum-known-told-2 c = search needs
-
-refuse-requires-2 : tie.Need-refuse-requires-2
-refuse-requires-2 c κs = search needs
+take-told-requires : tie.Need-take-told-requires
+take-told-requires c κs = (record-length _ (sym (c .before .before .before .before .is-record .ensures) ∙ not-false _ (c .before .before .before .if2 .left)), search needs)
 
 same-length-3 : tie.Need-same-length-3
 same-length-3 c = search needs
@@ -51,17 +42,7 @@ same-length-4 c = search needs
 
 returns-3 : tie.Need-returns-3
 unfolding siteCall
-returns-3 c = simp (le-ltb _ _ (c .before .before .before .before .before .before .before .before .before .before .before .before .before .before .if1 .left), sym (c .before .before .before .before .before .before .before .before .before .before .before .before .is-record .ensures) ∙ not-false _ (c .before .before .before .before .before .before .before .before .before .before .before .if2 .left), sym (c .before .before .before .before .before .before .before .before .before .before .step-told .ensures) ∙ c .before .before .before .before .before .before .before .before .told .given .1) (c .before .before .before .before .take .ensures)
-
-same-length-5 : tie.Need-same-length-5
-same-length-5 c = search needs
-
-same-length-6 : tie.Need-same-length-6
-same-length-6 c = search needs
-
-returns-4 : tie.Need-returns-4
-unfolding siteCall
-returns-4 c = simp (le-ltb _ _ (c .before .before .before .before .before .before .before .before .before .before .before .if1 .left), sym (c .before .before .before .before .before .before .before .before .before .is-record .ensures) ∙ not-false _ (c .before .before .before .before .before .before .before .before .if2 .left), sym (c .before .before .before .before .before .before .before .step-told .ensures) ∙ c .before .before .before .before .before .told2 .given .1, c .before .before .refuse2 .ensures .0, c .before .before .refuse2 .ensures .1)
+returns-3 c = simp (le-ltb _ _ (c .before .before .before .before .before .before .before .before .before .before .before .if1 .left), sym (c .before .before .before .before .before .before .before .before .before .is-record .ensures) ∙ not-false _ (c .before .before .before .before .before .before .before .before .if2 .left), ← c .before .before .before .before .before .before .step-told .ensures) (c .before .before .before .before .take-told .ensures)
 
 pub fj-site-step-spec : {M : Type 1} → statement M
 fj-site-step-spec =
@@ -74,13 +55,7 @@ fj-site-step-spec =
     same-length-2
     returns-2
     step-told-requires
-    enum-known-told
-    take-requires
-    enum-known-told-2
-    refuse-requires-2
+    take-told-requires
     same-length-3
     same-length-4
-    returns-3
-    same-length-5
-    same-length-6
-    returns-4)
+    returns-3)

@@ -14,16 +14,12 @@ returns-2 : tie.Need-returns-2
 unfolding stepTold
 returns-2 c = simp (le-leb _ _ (c .before .if1 .left), lt-leb _ _ (c .if2 .taken))
 
-event-of-requires : tie.Need-event-of-requires
-event-of-requires c κs = search needs
-
 step-in-requires : tie.Need-step-in-requires
 step-in-requires c κs = search needs
 
 returns-3 : tie.Need-returns-3
 unfolding stepTold
-returns-3 c = simp (le-leb _ _ (c .before .before .before .if1 .left), le-leb _ _ (c .before .before .if2 .left), ← c .before .event-of .ensures) (c .step-in .ensures)
+returns-3 c = simp (le-leb _ _ (c .before .before .if1 .left), le-leb _ _ (c .before .if2 .left)) (c .step-in .ensures)
 
 pub step-told-spec : {M : Type 1} → statement M
-step-told-spec =
-    tie.close (tie.spec returns returns-2 event-of-requires step-in-requires returns-3)
+step-told-spec = tie.close (tie.spec returns returns-2 step-in-requires returns-3)

@@ -1,16 +1,15 @@
--- `embed::site_calls::take` meets its contract.
+-- `embed::site_calls::take_step` meets its contract.
 -- Assumes nothing.
 use mathlib.Core.Path.{ap, _∙_}
 use mathlib.Core.List.{List, _++_}
-use native.Mathlib.Omega.{arith}
 use Prim.Native.Nat.{ℕ}
 use native.Mathlib.Nat.{le-of-eq}
 use lib.ListN.{drop-of-length-le}
 use Rattle.embed.specs.Bytes.{siteBytes}
 use Rattle.embed.proofs.Calls.{called-refused, called-accepted}
 use borrow.Author.Needs.{needs}
-use Rattle.embed.proofs.site_calls.take.Statement.{statement}
-use Rattle.embed.proofs.site_calls.take.Tie as tie
+use Rattle.embed.proofs.site_calls.take_step.Statement.{statement}
+use Rattle.embed.proofs.site_calls.take_step.Tie as tie
 
 site-from-requires : tie.Need-site-from-requires
 site-from-requires c κs = search needs
@@ -46,8 +45,8 @@ returns-2 : tie.Need-returns-2
 unfolding siteBytes
 returns-2 c = simp (← c .before .before .before .before .before .before .before .before .before .before .site-from .ensures, ← c .before .before .before .before .before .before .before .before .before .step .ensures) (called-accepted (c .before .before .before .before .before .before .before .before .before .step .result .outcome) (c .before .before .before .before .before .before .before .before .before .before .before .before .before .before .args .site .now) (siteBytes (c .before .before .before .before .before .before .before .before .before .step .result .site)) _ _ (c .before .before .before .before .before .before .before .put-answer .ensures) _ (c .before .before .put-site .ensures ∙ ap (λ (l : List ℕ). siteBytes (c .before .before .before .before .before .before .before .before .before .step .result .site) ++ l) (drop-of-length-le (c .before .before .before .before .before .before .before .before .before .before .before .before .before .before .args .site .now) (le-of-eq (c .before .before .before .before .before .before .before .before .before .before .before .before .before .before .pre .0)))) (c .before .before .before .before .match .keys2))
 
-pub take-spec : {M : Type 1} → statement M
-take-spec =
+pub take-step-spec : {M : Type 1} → statement M
+take-step-spec =
     tie.close
     (tie.spec
     site-from-requires

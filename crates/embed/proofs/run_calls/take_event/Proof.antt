@@ -1,10 +1,10 @@
--- `embed::run_calls::happen` meets its contract.
+-- `embed::run_calls::take_event` meets its contract.
 -- Assumes nothing.
 use Rattle.embed.specs.RunCalls.{runBytes, ranBytes}
 use Rattle.embed.proofs.Calls.{called-refused, called-accepted}
 use borrow.Author.Needs.{needs}
-use Rattle.embed.proofs.run_calls.happen.Statement.{statement}
-use Rattle.embed.proofs.run_calls.happen.Tie as tie
+use Rattle.embed.proofs.run_calls.take_event.Statement.{statement}
+use Rattle.embed.proofs.run_calls.take_event.Tie as tie
 
 run-from-requires : tie.Need-run-from-requires
 run-from-requires c κs = search needs
@@ -41,8 +41,8 @@ returns-2 : tie.Need-returns-2
 unfolding ranBytes
 returns-2 c = simp (← c .before .before .before .before .before .before .before .before .before .before .run-from .ensures, ← c .before .before .before .before .before .before .before .before .before .happens .ensures) (called-accepted (c .before .before .before .before .before .before .before .before .before .happens .result .outcome) (c .before .before .before .before .before .before .before .before .before .before .before .before .before .before .args .run .now) (runBytes (c .before .before .before .before .before .before .before .before .before .happens .result .run)) _ _ (c .before .before .before .before .before .before .before .put-ran .ensures) _ (c .before .before .put-run .ensures) (c .before .before .before .before .match .keys2))
 
-pub happen-spec : {M : Type 1} → statement M
-happen-spec =
+pub take-event-spec : {M : Type 1} → statement M
+take-event-spec =
     tie.close
     (tie.spec
     run-from-requires
