@@ -9,10 +9,8 @@ use Rattle.site.specs.declared.Answer.{Answer}
 use Rattle.site.specs.Step.{stepOf}
 use Rattle.run.specs.declared.Event.the-variants.{Act, Stop, Cut}
 use Rattle.fields.specs.declared.Made.{Made}
-use Rattle.fields.specs.declared.Made.the-variants as made
+use Rattle.fields.specs.declared.Made.the-variants.{Good, Bad}
 use Rattle.fields.specs.Fields.{body, eventFrom}
-use Rattle.embed.specs.declared.site_calls.Told.{Told}
-use Rattle.embed.specs.declared.site_calls.Told.the-variants.{Good, Bad}
 use Rattle.embed.specs.Bytes.{siteBytes, siteFrom, outcomeByte, LeftBoth, leavesBoth, called}
 
 -- ---- what is asked for
@@ -21,15 +19,9 @@ use Rattle.embed.specs.Bytes.{siteBytes, siteFrom, outcomeByte, LeftBoth
 unfoldable pub isRecord : List ℕ → Bool
 isRecord site = eqb (length site) 8 && leb (getD site 2 0) 4
 
--- 13 is given for a K that is not 1 to 5, 14 as an event's fields have it
-abbrev pub stepIn : Made → Told
-stepIn (made.Good (Act a t)) = Good t
-stepIn (made.Good (Stop a)) = Bad 13
-stepIn (made.Good (Cut a t to)) = Bad 13
-stepIn (made.Bad g) = Bad g
-
-unfoldable pub stepTold : ℕ → ℕ → ℕ → ℕ → Told
-stepTold k o m v = cond (leb 1 k && leb k 5) (stepIn (eventFrom (body k 0 o m v 0))) (Bad 13)
+-- 13 is given where this is false: K is 1 to 5, a begin to a conclude
+unfoldable pub isStep : ℕ → Bool
+isStep k = leb 1 k && leb k 5
 
 -- ---- what is left
 
@@ -45,12 +37,17 @@ noStep g site room = leavesBoth g site (2 ∷ 0 ∷ 0 ∷ 0 ∷ 0 ∷ drop 5 roo
 abbrev pub stepLeaves : Answer → List ℕ → List ℕ → LeftBoth
 stepLeaves a site room = called (a .outcome) site (siteBytes (a .site)) (answerBytes a ++ drop 5 room)
 
-abbrev pub stepping : Told → List ℕ → List ℕ → LeftBoth
-stepping (Good t) site room = stepLeaves (stepOf (siteFrom site 0) t) site room
+-- the step that the fields tell, or 14 as an event's fields have it; with a K of 1 to 5 they tell no stop
+abbrev pub stepping : Made → List ℕ → List ℕ → LeftBoth
+stepping (Good (Act a t)) site room = stepLeaves (stepOf (siteFrom site 0) t) site room
+stepping (Good (Stop a)) site room = noStep 13 site room
+stepping (Good (Cut a t to)) site room = noStep 13 site room
 stepping (Bad g) site room = noStep g site room
 
 -- 15 comes first, with nothing touched; then 1, 13, 14, then the step's own grounds
 unfoldable pub siteCall : List ℕ → ℕ → ℕ → ℕ → ℕ → List ℕ → LeftBoth
 siteCall site k o m v room =
     cond (ltb (length room) 5) (leavesBoth 15 site room)
-    (cond (isRecord site) (stepping (stepTold k o m v) site room) (noStep 1 site room))
+    (cond (isRecord site)
+    (cond (isStep k) (stepping (eventFrom (body k 0 o m v 0)) site room) (noStep 13 site room))
+    (noStep 1 site room))

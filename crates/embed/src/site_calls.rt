@@ -5,7 +5,7 @@ ghost use mathlib.Core.List.{_∷_, _++_};
 ghost use Prim.Native.Nat.{_+_, _≤_};
 ghost use lib.ListN.{length, drop};
 ghost use Rattle.embed.specs.Bytes.{stateByte, stateFrom, siteBytes, siteFrom, outcomeByte, leavesBoth};
-ghost use Rattle.embed.specs.SiteCall.{isRecord, stepIn, stepTold, answerBytes, stepLeaves, stepping, siteCall};
+ghost use Rattle.embed.specs.SiteCall.{isRecord, isStep, answerBytes, stepLeaves, stepping, siteCall};
 ghost use Rattle.site.specs.Step.{stepOf};
 ghost use Rattle.fields.specs.Fields.{eventFrom};
 use fields::Fields;
@@ -96,44 +96,11 @@ fn is_record(bytes: &[u8]) -> bool
     bytes[2] <= 4
 }
 
-// The step that K, O, M and V tell, or the refusal.
-enum Told {
-    Good(Step),
-    Bad(u8),
-}
-
-// The step that the fields tell of any site.
-fn step_in(fields: Fields) -> Told
-    ensures { λ r. ⌜ r ≡ stepIn (eventFrom fields) ⌝ }
+// Is this the K of a step?
+fn is_step(k: u8) -> bool
+    ensures { λ r. ⌜ r ≡ isStep k ⌝ }
 {
-    let made = event_of(fields);
-    match made {
-        Made::Good(event) => match event {
-            Event::Act(_, step) => Told::Good(step),
-            Event::Stop(_) => Told::Bad(13),
-            Event::Cut(_, _, _) => Told::Bad(13),
-        },
-        Made::Bad(ground) => Told::Bad(ground),
-    }
-}
-
-fn step_told(k: u8, o: u8, m: u8, v: u8) -> Told
-    ensures { λ r. ⌜ r ≡ stepTold k o m v ⌝ }
-{
-    if k < 1 {
-        return Told::Bad(13);
-    }
-    if 5 < k {
-        return Told::Bad(13);
-    }
-    step_in(Fields {
-        k,
-        s: 0,
-        o,
-        m,
-        v,
-        x: 0,
-    })
+    1 <= k && k <= 5
 }
 
 // The answer of a step that was not tried. Returns the refusal.
@@ -176,14 +143,18 @@ fn take_step(site: &mut [u8], step: Step, answer: &mut [u8]) -> u8
     0
 }
 
-// The step that was told, or 13 or 14. Returns 0 or the refusal.
-fn take_told(site: &mut [u8], told: Told, answer: &mut [u8]) -> u8
+// The step that the fields tell, or 14. Returns 0 or the refusal.
+fn take_fields(site: &mut [u8], fields: Fields, answer: &mut [u8]) -> u8
     requires { ⌜ (length (now site) ≡ 8) × (5 ≤ length (now answer)) ⌝ }
-    ensures { λ r. ⌜ leavesBoth r (now (site .exit)) (now (answer .exit)) ≡ stepping told (now (site .entry)) (now (answer .entry)) ⌝ }
+    ensures { λ r. ⌜ leavesBoth r (now (site .exit)) (now (answer .exit)) ≡ stepping (eventFrom fields) (now (site .entry)) (now (answer .entry)) ⌝ }
 {
-    match told {
-        Told::Good(step) => take_step(site, step, answer),
-        Told::Bad(ground) => refuse(answer, ground),
+    let made = event_of(fields);
+    match made {
+        Made::Good(event) => match event {
+            Event::Act(_, step) => take_step(site, step, answer),
+            _ => refuse(answer, 13),
+        },
+        Made::Bad(ground) => refuse(answer, ground),
     }
 }
 
@@ -198,5 +169,16 @@ pub extern "C" fn fj_site_step(site: &mut [u8], k: u8, o: u8, m: u8, v: u8, answ
     if !is_record(site) {
         return refuse(answer, 1);
     }
-    take_told(site, step_told(k, o, m, v), answer)
+    if !is_step(k) {
+        return refuse(answer, 13);
+    }
+    let fields = Fields {
+        k,
+        s: 0,
+        o,
+        m,
+        v,
+        x: 0,
+    };
+    take_fields(site, fields, answer)
 }

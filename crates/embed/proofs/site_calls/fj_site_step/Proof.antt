@@ -28,11 +28,11 @@ returns-2 : tie.Need-returns-2
 unfolding siteCall
 returns-2 c = simp (le-ltb _ _ (c .before .before .before .before .before .before .before .if1 .left), sym (c .before .before .before .before .before .is-record .ensures) ∙ not-true _ (c .before .before .before .before .if2 .taken), c .before .before .refuse .ensures .0, c .before .before .refuse .ensures .1)
 
-step-told-requires : tie.Need-step-told-requires
-step-told-requires c κs = search needs
+is-step-requires : tie.Need-is-step-requires
+is-step-requires c κs = search needs
 
-take-told-requires : tie.Need-take-told-requires
-take-told-requires c κs = (record-length _ (sym (c .before .before .before .before .is-record .ensures) ∙ not-false _ (c .before .before .before .if2 .left)), search needs)
+refuse-requires-2 : tie.Need-refuse-requires-2
+refuse-requires-2 c κs = search needs
 
 same-length-3 : tie.Need-same-length-3
 same-length-3 c = search needs
@@ -42,7 +42,20 @@ same-length-4 c = search needs
 
 returns-3 : tie.Need-returns-3
 unfolding siteCall
-returns-3 c = simp (le-ltb _ _ (c .before .before .before .before .before .before .before .before .before .before .before .if1 .left), sym (c .before .before .before .before .before .before .before .before .before .is-record .ensures) ∙ not-false _ (c .before .before .before .before .before .before .before .before .if2 .left), ← c .before .before .before .before .before .before .step-told .ensures) (c .before .before .before .before .take-told .ensures)
+returns-3 c = simp (le-ltb _ _ (c .before .before .before .before .before .before .before .before .before .if1 .left), sym (c .before .before .before .before .before .before .before .is-record .ensures) ∙ not-false _ (c .before .before .before .before .before .before .if2 .left), sym (c .before .before .before .before .before .is-step .ensures) ∙ not-true _ (c .before .before .before .before .if3 .taken), c .before .before .refuse2 .ensures .0, c .before .before .refuse2 .ensures .1)
+
+take-fields-requires : tie.Need-take-fields-requires
+take-fields-requires c κs = (record-length _ (sym (c .before .before .before .before .before .is-record .ensures) ∙ not-false _ (c .before .before .before .before .if2 .left)), search needs)
+
+same-length-5 : tie.Need-same-length-5
+same-length-5 c = search needs
+
+same-length-6 : tie.Need-same-length-6
+same-length-6 c = search needs
+
+returns-4 : tie.Need-returns-4
+unfolding siteCall
+returns-4 c = simp (le-ltb _ _ (c .before .before .before .before .before .before .before .before .before .before .before .before .if1 .left), sym (c .before .before .before .before .before .before .before .before .before .before .is-record .ensures) ∙ not-false _ (c .before .before .before .before .before .before .before .before .before .if2 .left), sym (c .before .before .before .before .before .before .before .before .is-step .ensures) ∙ not-false _ (c .before .before .before .before .before .before .before .if3 .left)) (c .before .before .before .before .take-fields .ensures)
 
 pub fj-site-step-spec : {M : Type 1} → statement M
 fj-site-step-spec =
@@ -54,8 +67,12 @@ fj-site-step-spec =
     same-length
     same-length-2
     returns-2
-    step-told-requires
-    take-told-requires
+    is-step-requires
+    refuse-requires-2
     same-length-3
     same-length-4
-    returns-3)
+    returns-3
+    take-fields-requires
+    same-length-5
+    same-length-6
+    returns-4)
