@@ -26,6 +26,10 @@ none = record { written = 0; awaited = 0 }
 abbrev pub refusedRun : Run → ℕ → Ran
 refusedRun r g = record { run = r; outcome = Refused g; counts = none }
 
+-- what was taken, with so many messages written and nobody awaited
+abbrev pub takenRun : Run → ℕ → Ran
+takenRun r m = record { run = r; outcome = Taken; counts = record { written = m; awaited = 0 } }
+
 -- ---- fresh
 
 unfoldable pub freshOf : ℕ → Ran
@@ -96,3 +100,7 @@ happened r (Cut s t x) = grounded r s t (ranCut (stepOf (siteAt r s) t .outcome)
 -- ground 1, then the event
 unfoldable pub eventOf : Run → Event → Ran
 eventOf r e = cond (soundRun r) (happened r e) (refusedRun r 1)
+
+-- an event of a run whose soundness is not asked for, beyond that it has a record for each site
+unfoldable pub goesOf : Run → Event → Ran
+goesOf r e = cond (leb (r .n) 8) (happened r e) (refusedRun r 1)

@@ -7,7 +7,7 @@ use mathlib.Core.Path.{_≡_, refl, ap, _∙_}
 use mathlib.Core.Logic.{_≢_}
 use native.Mathlib.Omega.{arith}
 use lib.Dec.{eqb, leb}
-use borrow.Author.Tests.{leb-true}
+use borrow.Author.Tests.{le-leb, leb-true}
 use Rattle.sets.specs.Sets.{isSite, has, withSite, both, countOf}
 use Rattle.sets.specs.Truths.{and-l, and-r}
 use Rattle.site.specs.declared.Outcome.{Outcome}
@@ -23,7 +23,7 @@ use Rattle.run.specs.declared.Event.the-variants.{Act, Stop, Cut}
 use Rattle.run.specs.declared.Ran.{Ran}
 use Rattle.run.specs.Run.{siteAt, outstanding, hasStopped, stoppedAt}
 use Rattle.run.specs.Sound.{soundRun}
-use Rattle.run.specs.Event.{none, refusedRun, isActor, isThere, acted, cutShort, ranStep, ranCut, grounded, stopped, happened, eventOf}
+use Rattle.run.specs.Event.{none, refusedRun, isActor, isThere, acted, cutShort, ranStep, ranCut, grounded, stopped, happened, goesOf, eventOf}
 use Rattle.run.specs.After.{acceptedBy}
 use Rattle.run.specs.SoundLaws.{n-most}
 use Rattle.run.specs.Views.{Shape, isPlace, parts-place, delivers, posts, out-stopped, n-acted, set-acted, site-acted, site-acted-other, out-acted, n-cut, set-cut, site-cut, out-cut}
@@ -113,6 +113,11 @@ happens r e = go (soundRun r) refl
     go : (b : Bool) → soundRun r ≡ b → Happens r e (cond b (happened r e) (refusedRun r 1))
     go true h = does r e h
     go false h = refuses
+
+-- an event of a sound run, tested for soundness or not, is the same
+pub sound-goes : (r : Run) (e : Event) → soundRun r ≡ true → goesOf r e ≡ eventOf r e
+unfolding goesOf eventOf
+sound-goes r e h = simp (h, le-leb (r .n) 8 (n-most r h))
 
 -- ---- the views after an accepted event
 

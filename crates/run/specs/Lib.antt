@@ -2,7 +2,7 @@ pub mod Run
 pub mod Sound
 pub mod Event
 pub mod After
-pub mod Ground
+pub mod Reply
 pub mod RunLists
 pub mod Views
 pub mod SoundLaws

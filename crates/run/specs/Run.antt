@@ -1,11 +1,11 @@
 -- A run (01, "The run"): its parts, what stands in them, and how one event's doings are put into it.
 -- Assumes nothing.
-use Prim.Native.Nat.{ℕ, zero, suc, _+_, _-_, _*_}
-use mathlib.Core.Bool.{Bool, true, false, cond, _&&_}
+use Prim.Native.Nat.{ℕ, _+_, _-_, _*_}
+use mathlib.Core.Bool.{Bool, cond, _&&_}
 use mathlib.Core.List.{List, [], _∷_, map}
-use lib.Dec.{eqb, leb}
+use lib.Dec.{leb}
 use lib.ListN.{getD, set, replicate}
-use Rattle.sets.specs.Sets.{isSite, has, weightOf, union, minus, without, withSite}
+use Rattle.sets.specs.Sets.{isSite, has, union, minus, without, withSite}
 use Rattle.site.specs.declared.State.{State}
 use Rattle.site.specs.declared.State.the-variants.{Q}
 use Rattle.site.specs.declared.Site.{Site}

@@ -4,13 +4,14 @@
 ghost use mathlib.Core.Path.{_≡_};
 ghost use mathlib.Core.Bool.{_&&_};
 ghost use Prim.Native.Nat.{ℕ, _+_, _≤_};
-ghost use lib.Dec.{eqb};
+ghost use lib.Dec.{eqb, leb};
+ghost use lib.ListN.{length};
 ghost use Rattle.sets.specs.Sets.{subset};
 ghost use Rattle.site.specs.Site.{soundOf};
-ghost use Rattle.run.specs.Run.{siteAt, outstanding, withRecord, takenOut, sentBy, stoppedAt, freshSite, freshRun};
+ghost use Rattle.run.specs.Run.{siteAt, withRecord, sentBy, stoppedAt, freshSite, freshRun};
 ghost use Rattle.run.specs.Sound.{every, soundPlace, soundRun};
-ghost use Rattle.run.specs.Event.{refusedRun, freshOf, isThere, delivered, acted, cutShort, stopped, happened, eventOf};
-ghost use Rattle.run.specs.Ground.{groundOf};
+ghost use Rattle.run.specs.Event.{refusedRun, takenRun, freshOf, acted, stopped, happened, goesOf, eventOf};
+ghost use Rattle.run.specs.Reply.{thereIn, groundIn, deliveredIn, settled, replyOf};
 use site::Answer;
 use site::Counts;
 use site::Outcome;
@@ -42,6 +43,14 @@ pub struct Ran {
     pub outcome: Outcome,
     pub counts: Counts,
 }
+
+// A site's answer to a step that it accepts, or the ground on which the step is refused.
+enum Reply {
+    Good(Answer),
+    Bad(u8),
+}
+
+// ---- fresh runs
 
 fn fresh_site(n: u8, i: u8) -> Site
     ensures { λ r. ⌜ r ≡ freshSite n i ⌝ }
@@ -80,26 +89,27 @@ fn fresh_run(n: u8) -> Run
     }
 }
 
+// Is this the number of sites of a run?
+fn is_count(n: u8) -> bool
+    ensures { λ r. ⌜ r ≡ (leb 2 n && leb n 8) ⌝ }
+{
+    if n < 2 {
+        return false;
+    }
+    n <= 8
+}
+
 // A run of n sites before any event; with n 0 where n is not 2 to 8.
 pub fn fresh(n: u8) -> Ran
     ensures { λ r. ⌜ r ≡ freshOf n ⌝ }
 {
-    if n < 2 {
+    if !is_count(n) {
         return fresh_run(0).refused(1);
     }
-    if 8 < n {
-        return fresh_run(0).refused(1);
-    }
-    let run = fresh_run(n);
-    Ran {
-        run,
-        outcome: Outcome::Taken,
-        counts: Counts {
-            written: 0,
-            awaited: 0,
-        },
-    }
+    fresh_run(n).taken(0)
 }
+
+// ---- parts of an event
 
 // Is a record right for place i of a run?
 fn sound_place(site: Site, n: u8, stopped: u8, i: u8) -> bool
@@ -117,6 +127,66 @@ fn sound_place(site: Site, n: u8, stopped: u8, i: u8) -> bool
     sets::subset(site.known, stopped)
 }
 
+// Is there what a step of site s is about? A delivered message is outstanding; a noticed site is among the news,
+// the stopped sites that s does not know of.
+fn is_there(step: Step, s: u8, news: u8, net: &[u8; 72]) -> bool
+    requires { ⌜ length (now net) ≡ 72 ⌝ }
+    ensures { λ r. ⌜ r ≡ thereIn step s news (now (net .entry)) ⌝ }
+{
+    match step {
+        Step::Begin(_) => true,
+        Step::Start(from, _) => net::holds(net, 1, from, s),
+        Step::Deliver(kind, from) => net::holds(net, kind, from, s),
+        Step::Notice(o) => sets::member(news, o),
+        Step::TakeOver => true,
+        Step::Conclude => true,
+    }
+}
+
+// The first of the grounds 2 to 4 on which a step of site s, one of the run's, is refused, 0 for none.
+fn ground(site: Site, s: u8, step: Step, stopped: u8, net: &[u8; 72]) -> u8
+    requires { ⌜ length (now net) ≡ 72 ⌝ }
+    ensures { λ r. ⌜ r ≡ groundIn site s step stopped (now (net .entry)) ⌝ }
+{
+    if !site.names(step) {
+        return 2;
+    }
+    if sets::member(stopped, s) {
+        return 3;
+    }
+    let news = sets::minus(stopped, site.known);
+    if !is_there(step, s, news, net) {
+        return 4;
+    }
+    0
+}
+
+// A site's answer, or the ground on which it refuses.
+fn settled(answer: Answer) -> Reply
+    ensures { λ r. ⌜ r ≡ settled (answer .outcome) answer ⌝ }
+{
+    let outcome = answer.outcome;
+    if let Outcome::Refused(ground) = outcome {
+        return Reply::Bad(ground);
+    }
+    Reply::Good(answer)
+}
+
+// A message that a step delivers to site s is taken out of the network, even if it is passed over.
+fn deliver(net: &mut [u8; 72], s: u8, step: Step)
+    requires { ⌜ length (now net) ≡ 72 ⌝ }
+    ensures { λ _. ⌜ now (net .exit) ≡ deliveredIn (now (net .entry)) s step ⌝ }
+{
+    match step {
+        Step::Begin(_) => {}
+        Step::Start(from, _) => net::take_out(net, 1, from, s),
+        Step::Deliver(kind, from) => net::take_out(net, kind, from, s),
+        Step::Notice(_) => {}
+        Step::TakeOver => {}
+        Step::Conclude => {}
+    }
+}
+
 impl Run {
     // The run as it was, with a ground and zero counts.
     fn refused(self, ground: u8) -> Ran
@@ -127,6 +197,20 @@ impl Run {
             outcome: Outcome::Refused(ground),
             counts: Counts {
                 written: 0,
+                awaited: 0,
+            },
+        }
+    }
+
+    // The run after what was taken, with so many messages written and nobody awaited.
+    fn taken(self, written: u8) -> Ran
+        ensures { λ r. ⌜ r ≡ takenRun self written ⌝ }
+    {
+        Ran {
+            run: self,
+            outcome: Outcome::Taken,
+            counts: Counts {
+                written,
                 awaited: 0,
             },
         }
@@ -157,11 +241,7 @@ impl Run {
     {
         let n = self.n;
         let stopped = self.stopped;
-        let net = self.net;
-        if n < 2 {
-            return false;
-        }
-        if 8 < n {
+        if !is_count(n) {
             return false;
         }
         if !sets::subset(stopped, sets::all_of(n)) {
@@ -170,7 +250,7 @@ impl Run {
         if !self.sound_places() {
             return false;
         }
-        net::sound(&net, n, stopped)
+        net::sound(&self.net, n, stopped)
     }
 
     // The record of site s.
@@ -182,145 +262,67 @@ impl Run {
         self.sites[i]
     }
 
-    // Is the message of this kind from this sender to site s outstanding?
-    fn outstanding(self, kind: u8, sender: u8, s: u8) -> bool
-        ensures { λ r. ⌜ r ≡ outstanding self kind sender s ⌝ }
-    {
-        let net = self.net;
-        sets::member(net::receivers(net, kind, sender), s)
-    }
-
-    // Is there what the step is about? A delivered message is outstanding; a noticed site has stopped and is not known to have.
-    fn is_there(self, s: u8, step: Step) -> bool
-        requires { ⌜ (1 ≤ s) × (s ≤ 8) ⌝ }
-        ensures { λ r. ⌜ r ≡ isThere self s step ⌝ }
-    {
-        match step {
-            Step::Begin(_) => true,
-            Step::Start(from, _) => self.outstanding(1, from, s),
-            Step::Deliver(kind, from) => self.outstanding(kind, from, s),
-            Step::Notice(o) => {
-                if !sets::member(self.stopped, o) {
-                    return false;
-                }
-                let site = self.site_at(s);
-                !sets::member(site.known, o)
-            }
-            Step::TakeOver => true,
-            Step::Conclude => true,
-        }
-    }
-
-    // The first of the grounds 2 to 4 on which a step of site s is refused, 0 for none.
-    fn ground(self, s: u8, step: Step) -> u8
-        requires { ⌜ self .n ≤ 8 ⌝ }
-        ensures { λ r. ⌜ r ≡ groundOf self s step ⌝ }
-    {
-        let n = self.n;
-        if s < 1 {
-            return 2;
-        }
-        if n < s {
-            return 2;
-        }
-        let site = self.site_at(s);
-        if !site.names(step) {
-            return 2;
-        }
-        if sets::member(self.stopped, s) {
-            return 3;
-        }
-        if !self.is_there(s, step) {
-            return 4;
-        }
-        0
-    }
-
     // Another record for site s.
-    fn with_record(self, s: u8, site: Site) -> Run
+    fn with_record(mut self, s: u8, site: Site) -> Run
         requires { ⌜ (1 ≤ s) × (s ≤ 8) ⌝ }
         ensures { λ r. ⌜ r ≡ withRecord self s site ⌝ }
     {
         let i = (s - 1) as usize;
-        let mut next = self;
-        next.sites[i] = site;
-        next
+        self.sites[i] = site;
+        self
     }
 
-    // The message of this kind from a sender to site s is taken out of the network.
-    fn taken_out(self, kind: u8, sender: u8, s: u8) -> Run
-        ensures { λ r. ⌜ r ≡ takenOut self kind sender s ⌝ }
+    // Site s is asked for a step: its answer, or the first of the grounds 2 to 6 on which the step is refused.
+    fn reply(self, s: u8, step: Step) -> Reply
+        requires { ⌜ self .n ≤ 8 ⌝ }
+        ensures { λ r. ⌜ r ≡ replyOf self s step ⌝ }
     {
-        let at = net::place(kind, sender);
-        if 72 <= at {
-            return self;
+        let n = self.n;
+        if s < 1 {
+            return Reply::Bad(2);
         }
-        let mut next = self;
-        next.net[at] = sets::without(next.net[at], s);
-        next
-    }
-
-    // Site s writes messages of one kind to a set of sites: those to running sites enter the network.
-    fn sent_by(self, kind: u8, s: u8, to: u8) -> Run
-        ensures { λ r. ⌜ r ≡ sentBy self kind s to ⌝ }
-    {
-        let at = net::place(kind, s);
-        if 72 <= at {
-            return self;
+        if n < s {
+            return Reply::Bad(2);
         }
-        let entering = sets::minus(to, self.stopped);
-        let mut next = self;
-        next.net[at] = sets::union(next.net[at], entering);
-        next
-    }
-
-    // Site s stops: what is addressed to it leaves the network.
-    fn stopped_at(self, s: u8) -> Run
-        ensures { λ r. ⌜ r ≡ stoppedAt self s ⌝ }
-    {
-        let stopped = sets::with(self.stopped, s);
-        let sites = self.sites;
-        let net = self.net;
-        let left = net::cleared(net, sets::weight(s));
-        Run {
-            n: self.n,
-            stopped,
-            sites,
-            net: left,
+        let site = self.site_at(s);
+        let ground = ground(site, s, step, self.stopped, &self.net);
+        if ground != 0 {
+            return Reply::Bad(ground);
         }
-    }
-
-    // A delivered message is taken out of the network, even if it is passed over.
-    fn delivered(self, s: u8, step: Step) -> Run
-        ensures { λ r. ⌜ r ≡ delivered self s step ⌝ }
-    {
-        match step {
-            Step::Begin(_) => self,
-            Step::Start(from, _) => self.taken_out(1, from, s),
-            Step::Deliver(kind, from) => self.taken_out(kind, from, s),
-            Step::Notice(_) => self,
-            Step::TakeOver => self,
-            Step::Conclude => self,
-        }
+        settled(site.step(step))
     }
 
     // A step's answer is put into the run: the delivered message out, the new record, the written messages in.
+    // Those to stopped sites do not enter the network.
     fn acted(self, s: u8, step: Step, answer: Answer) -> Run
         requires { ⌜ (1 ≤ s) × (s ≤ 8) ⌝ }
         ensures { λ r. ⌜ r ≡ acted self s step answer ⌝ }
     {
         let site = answer.site;
-        self.delivered(s, step)
-            .with_record(s, site)
-            .sent_by(answer.kind, s, answer.to)
+        let mut next = self.with_record(s, site);
+        deliver(&mut next.net, s, step);
+        let entering = sets::minus(answer.to, next.stopped);
+        net::send(&mut next.net, answer.kind, s, entering);
+        next
     }
 
-    // A step is cut short: the site stops with its record as before the step, and of its messages those to x leave.
-    fn cut_short(self, s: u8, answer: Answer, x: u8) -> Run
-        ensures { λ r. ⌜ r ≡ cutShort self s answer x ⌝ }
+    // Site s stops: what is addressed to it leaves the network.
+    fn stopped_at(mut self, s: u8) -> Run
+        ensures { λ r. ⌜ r ≡ stoppedAt self s ⌝ }
     {
-        self.stopped_at(s)
-            .sent_by(answer.kind, s, sets::both(answer.to, x))
+        self.stopped = sets::with(self.stopped, s);
+        net::clear(&mut self.net, sets::weight(s));
+        self
+    }
+
+    // A step is cut short: the site stops with its record as before the step, and of its messages those to some sites leave.
+    fn cut_short(self, s: u8, kind: u8, leaving: u8) -> Run
+        ensures { λ r. ⌜ r ≡ sentBy (stoppedAt self s) kind s leaving ⌝ }
+    {
+        let mut next = self.stopped_at(s);
+        let entering = sets::minus(leaving, next.stopped);
+        net::send(&mut next.net, kind, s, entering);
+        next
     }
 
     // Site s takes a step.
@@ -328,21 +330,18 @@ impl Run {
         requires { ⌜ self .n ≤ 8 ⌝ }
         ensures { λ r. ⌜ r ≡ happened self (Event.Act s step) ⌝ }
     {
-        let ground = self.ground(s, step);
-        if ground != 0 {
-            return self.refused(ground);
-        }
-        let answer = self.site_at(s).step(step);
-        let outcome = answer.outcome;
-        let counts = answer.counts;
-        if let Outcome::Refused(g) = outcome {
-            return self.refused(g);
-        }
-        let run = self.acted(s, step, answer);
-        Ran {
-            run,
-            outcome,
-            counts,
+        match self.reply(s, step) {
+            Reply::Good(answer) => {
+                let run = self.acted(s, step, answer);
+                let outcome = answer.outcome;
+                let counts = answer.counts;
+                Ran {
+                    run,
+                    outcome,
+                    counts,
+                }
+            }
+            Reply::Bad(ground) => self.refused(ground),
         }
     }
 
@@ -360,15 +359,7 @@ impl Run {
         if sets::member(self.stopped, s) {
             return self.refused(3);
         }
-        let run = self.stopped_at(s);
-        Ran {
-            run,
-            outcome: Outcome::Taken,
-            counts: Counts {
-                written: 0,
-                awaited: 0,
-            },
-        }
+        self.stopped_at(s).taken(0)
     }
 
     // Site s stops inside a step, after its messages to x have left.
@@ -376,31 +367,23 @@ impl Run {
         requires { ⌜ self .n ≤ 8 ⌝ }
         ensures { λ r. ⌜ r ≡ happened self (Event.Cut s step x) ⌝ }
     {
-        let ground = self.ground(s, step);
-        if ground != 0 {
-            return self.refused(ground);
-        }
-        let answer = self.site_at(s).step(step);
-        let outcome = answer.outcome;
-        if let Outcome::Refused(g) = outcome {
-            return self.refused(g);
-        }
-        let run = self.cut_short(s, answer, x);
-        Ran {
-            run,
-            outcome: Outcome::Taken,
-            counts: Counts {
-                written: sets::count(sets::both(answer.to, x)),
-                awaited: 0,
-            },
+        match self.reply(s, step) {
+            Reply::Good(answer) => {
+                let leaving = sets::both(answer.to, x);
+                self.cut_short(s, answer.kind, leaving)
+                    .taken(sets::count(leaving))
+            }
+            Reply::Bad(ground) => self.refused(ground),
         }
     }
 
-    // An event happens.
-    pub fn happens(self, event: Event) -> Ran
-        ensures { λ r. ⌜ r ≡ eventOf self event ⌝ }
+    // The next event of a run that is known to be sound, as every run from fresh is: that is not tested again.
+    // A run of more than eight sites is refused.
+    pub fn goes(self, event: Event) -> Ran
+        ensures { λ r. ⌜ r ≡ goesOf self event ⌝ }
     {
-        if !self.sound() {
+        let n = self.n;
+        if 8 < n {
             return self.refused(1);
         }
         match event {
@@ -408,5 +391,15 @@ impl Run {
             Event::Stop(s) => self.stops(s),
             Event::Cut(s, step, x) => self.stops_inside(s, step, x),
         }
+    }
+
+    // An event happens in any run.
+    pub fn happens(self, event: Event) -> Ran
+        ensures { λ r. ⌜ r ≡ eventOf self event ⌝ }
+    {
+        if !self.sound() {
+            return self.refused(1);
+        }
+        self.goes(event)
     }
 }

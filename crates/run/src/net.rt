@@ -3,8 +3,8 @@
 ghost use mathlib.Core.Path.{_≡_};
 ghost use mathlib.Core.List.{map};
 ghost use Prim.Native.Nat.{ℕ, _+_, _<_, _/_, _%_};
-ghost use lib.ListN.{getD};
-ghost use Rattle.sets.specs.Sets.{minus, subset};
+ghost use lib.ListN.{length, getD, set};
+ghost use Rattle.sets.specs.Sets.{has, union, minus, without, subset};
 ghost use Rattle.run.specs.Run.{place, receivers};
 ghost use Rattle.run.specs.Sound.{every, mayReach};
 
@@ -27,26 +27,48 @@ pub fn place(kind: u8, sender: u8) -> usize
     8 * (kind - 1) as usize + (sender - 1) as usize
 }
 
-// The sites for which a message of this kind from this sender is outstanding.
-pub fn receivers(net: [u8; 72], kind: u8, sender: u8) -> u8
-    ensures { λ r. ⌜ r ≡ receivers net kind sender ⌝ }
+// Is the message of this kind from this sender to site s outstanding?
+pub(crate) fn holds(net: &[u8; 72], kind: u8, sender: u8, s: u8) -> bool
+    requires { ⌜ length (now net) ≡ 72 ⌝ }
+    ensures { λ r. ⌜ r ≡ has (receivers (now (net .entry)) kind sender) s ⌝ }
+{
+    let at = place(kind, sender);
+    if 72 <= at {
+        return false;
+    }
+    sets::member(net[at], s)
+}
+
+// The message of this kind from a sender to site s is taken out.
+pub(crate) fn take_out(net: &mut [u8; 72], kind: u8, sender: u8, s: u8)
+    requires { ⌜ length (now net) ≡ 72 ⌝ }
+    ensures { λ _. ⌜ now (net .exit) ≡ set (now (net .entry)) (place kind sender) (without (receivers (now (net .entry)) kind sender) s) ⌝ }
 {
     let at = place(kind, sender);
     if at < 72 {
-        return net[at];
+        net[at] = sets::without(net[at], s);
     }
-    0
 }
 
-// The network without the messages to a set of sites.
-pub fn cleared(net: [u8; 72], gone: u8) -> [u8; 72]
-    ensures { λ r. ⌜ r ≡ map (λ (m : ℕ). minus m gone) net ⌝ }
+// Messages of one kind from a sender to a set of sites come in.
+pub(crate) fn send(net: &mut [u8; 72], kind: u8, sender: u8, to: u8)
+    requires { ⌜ length (now net) ≡ 72 ⌝ }
+    ensures { λ _. ⌜ now (net .exit) ≡ set (now (net .entry)) (place kind sender) (union (receivers (now (net .entry)) kind sender) to) ⌝ }
 {
-    let mut next = net;
-    for k in 0..72 {
-        next[k] = sets::minus(next[k], gone);
+    let at = place(kind, sender);
+    if at < 72 {
+        net[at] = sets::union(net[at], to);
     }
-    next
+}
+
+// The messages to a set of sites are taken out.
+pub(crate) fn clear(net: &mut [u8; 72], gone: u8)
+    requires { ⌜ length (now net) ≡ 72 ⌝ }
+    ensures { λ _. ⌜ now (net .exit) ≡ map (λ (m : ℕ). minus m gone) (now (net .entry)) ⌝ }
+{
+    for k in 0..72 {
+        net[k] = sets::minus(net[k], gone);
+    }
 }
 
 // The sites of 1 to n to which a message of this kind from this sender may be addressed.

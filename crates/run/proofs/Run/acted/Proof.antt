@@ -1,22 +1,40 @@
 -- `run::Run::acted` meets its contract.
 -- Assumes nothing.
-use Rattle.run.specs.Event.{acted}
+use mathlib.Core.Path.{_≡_, sym, ap, _∙_}
+use mathlib.Core.List.{List}
+use Prim.Native.Nat.{ℕ}
+use lib.ListN.{length}
+use Rattle.sets.specs.Sets.{minus}
+use Rattle.run.specs.declared.Run.{Run}
+use Rattle.run.specs.Run.{withNet}
+use Rattle.run.specs.Reply.{deliveredIn, delivered-length, sentIn, acted-in}
 use borrow.Author.Needs.{needs}
 use Rattle.run.proofs.Run.acted.Statement.{statement}
 use Rattle.run.proofs.Run.acted.Tie as tie
 
-delivered-requires : tie.Need-delivered-requires
-delivered-requires c κs = search needs
-
 with-record-requires : tie.Need-with-record-requires
 with-record-requires c κs = search needs
 
-sent-by-requires : tie.Need-sent-by-requires
-sent-by-requires c κs = search needs
+deliver-requires : tie.Need-deliver-requires
+deliver-requires c κs = search needs
+
+minus-requires : tie.Need-minus-requires
+minus-requires c κs = search needs
+
+send-requires : tie.Need-send-requires
+send-requires c κs =
+    let h : length (c .before .before .before .before .with-record .result .net) ≡ 72 = search needs in
+    ap length (c .before .before .deliver .ensures) ∙ delivered-length (c .before .before .before .before .with-record .result .net) (c .before .before .before .before .before .before .args .s) (c .before .before .before .before .before .before .args .step) ∙ h
 
 returns : tie.Need-returns
-unfolding acted
-returns c = simp (c .sent-by .ensures, c .before .with-record .ensures, c .before .before .delivered .ensures)
+returns c =
+    ap (withNet (c .before .before .before .before .before .with-record .result))
+    (c .send .ensures
+    ∙ ap (λ (l : List ℕ). sentIn l (c .before .before .before .before .before .before .before .args .answer .kind) (c .before .before .before .before .before .before .before .args .s) (c .before .before .minus .result)) (c .before .before .before .deliver .ensures)
+    ∙ ap (sentIn (deliveredIn (c .before .before .before .before .before .with-record .result .net) (c .before .before .before .before .before .before .before .args .s) (c .before .before .before .before .before .before .before .args .step)) (c .before .before .before .before .before .before .before .args .answer .kind) (c .before .before .before .before .before .before .before .args .s)) (c .before .before .minus .ensures))
+    ∙ ap (λ (r : Run). withNet r (sentIn (deliveredIn (r .net) (c .before .before .before .before .before .before .before .args .s) (c .before .before .before .before .before .before .before .args .step)) (c .before .before .before .before .before .before .before .args .answer .kind) (c .before .before .before .before .before .before .before .args .s) (minus (c .before .before .before .before .before .before .before .args .answer .to) (r .stopped)))) (c .before .before .before .before .before .with-record .ensures)
+    ∙ sym (acted-in (c .before .before .before .before .before .before .before .args .self) (c .before .before .before .before .before .before .before .args .s) (c .before .before .before .before .before .before .before .args .step) (c .before .before .before .before .before .before .before .args .answer))
 
 pub acted-spec : {M : Type 1} → statement M
-acted-spec = tie.close (tie.spec delivered-requires with-record-requires sent-by-requires returns)
+acted-spec =
+    tie.close (tie.spec with-record-requires deliver-requires minus-requires send-requires returns)

@@ -1,6 +1,9 @@
 -- `run::Run::cut_short` meets its contract.
 -- Assumes nothing.
-use Rattle.run.specs.Event.{cutShort}
+use mathlib.Core.Path.{ap, _∙_}
+use Rattle.run.specs.declared.Run.{Run}
+use Rattle.run.specs.Run.{sentBy, withNet}
+use Rattle.run.specs.Reply.{sentIn}
 use borrow.Author.Needs.{needs}
 use Rattle.run.proofs.Run.cut_short.Statement.{statement}
 use Rattle.run.proofs.Run.cut_short.Tie as tie
@@ -8,15 +11,17 @@ use Rattle.run.proofs.Run.cut_short.Tie as tie
 stopped-at-requires : tie.Need-stopped-at-requires
 stopped-at-requires c κs = search needs
 
-both-requires : tie.Need-both-requires
-both-requires c κs = search needs
+minus-requires : tie.Need-minus-requires
+minus-requires c κs = search needs
 
-sent-by-requires : tie.Need-sent-by-requires
-sent-by-requires c κs = search needs
+send-requires : tie.Need-send-requires
+send-requires c κs = search needs
 
 returns : tie.Need-returns
-unfolding cutShort
-returns c = simp (c .sent-by .ensures, c .before .before .stopped-at .ensures, c .before .both .ensures)
+unfolding sentBy
+returns c =
+    ap (withNet (c .before .before .before .stopped-at .result)) (c .send .ensures ∙ ap (sentIn (c .before .before .before .stopped-at .result .net) (c .before .before .before .before .args .kind) (c .before .before .before .before .args .s)) (c .before .before .minus .ensures))
+    ∙ ap (λ (r : Run). sentBy r (c .before .before .before .before .args .kind) (c .before .before .before .before .args .s) (c .before .before .before .before .args .leaving)) (c .before .before .before .stopped-at .ensures)
 
 pub cut-short-spec : {M : Type 1} → statement M
-cut-short-spec = tie.close (tie.spec stopped-at-requires both-requires sent-by-requires returns)
+cut-short-spec = tie.close (tie.spec stopped-at-requires minus-requires send-requires returns)

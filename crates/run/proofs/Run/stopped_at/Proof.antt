@@ -12,12 +12,12 @@ with-requires c κs = search needs
 weight-requires : tie.Need-weight-requires
 weight-requires c κs = search needs
 
-cleared-requires : tie.Need-cleared-requires
-cleared-requires c κs = search needs
+clear-requires : tie.Need-clear-requires
+clear-requires c κs = search needs
 
 returns : tie.Need-returns
 unfolding stoppedAt without
-returns c = simp (c .cleared .ensures, c .before .weight .ensures, c .before .before .before .before .with .ensures)
+returns c = simp (c .clear .ensures, c .before .weight .ensures, c .before .before .before .with .ensures)
 
 pub stopped-at-spec : {M : Type 1} → statement M
-stopped-at-spec = tie.close (tie.spec with-requires weight-requires cleared-requires returns)
+stopped-at-spec = tie.close (tie.spec with-requires weight-requires clear-requires returns)

@@ -35,9 +35,12 @@ returns-3 c = simp (le-leb _ _ (c .before .before .before .before .if1 .left), l
 stopped-at-requires : tie.Need-stopped-at-requires
 stopped-at-requires c κs = search needs
 
+taken-requires : tie.Need-taken-requires
+taken-requires c κs = search needs
+
 returns-4 : tie.Need-returns-4
 unfolding stopped isActor hasStopped
-returns-4 c = simp (le-leb _ _ (c .before .before .before .before .if1 .left), le-leb _ _ (c .before .before .before .if2 .left), sym (c .before .before .member .ensures) ∙ c .before .if3 .left, c .stopped-at .ensures)
+returns-4 c = simp (le-leb _ _ (c .before .before .before .before .before .if1 .left), le-leb _ _ (c .before .before .before .before .if2 .left), sym (c .before .before .before .member .ensures) ∙ c .before .before .if3 .left, c .taken .ensures, c .before .stopped-at .ensures)
 
 pub stops-spec : {M : Type 1} → statement M
 stops-spec =
@@ -51,4 +54,5 @@ stops-spec =
     refused-requires-3
     returns-3
     stopped-at-requires
+    taken-requires
     returns-4)
