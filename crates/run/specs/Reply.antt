@@ -109,13 +109,11 @@ unfoldable pub replyOf : Run → ℕ → Step → Reply
 replyOf r s t =
     cond (isActor r s) (unless (groundIn (siteAt r s) s t (r .stopped) (r .net)) (settled (stepOf (siteAt r s) t .outcome) (stepOf (siteAt r s) t))) (Bad 2)
 
--- the reply of a site x of the run
-pub reply-at : (r : Run) (s : ℕ) (t : Step) (x : Site) → 1 ≤ s → s ≤ r .n → x ≡ siteAt r s
-    → replyOf r s t ≡ unless (groundIn x s t (r .stopped) (r .net)) (settled (stepOf x t .outcome) (stepOf x t))
+-- the reply of a site of the run
+pub reply-at : (r : Run) (s : ℕ) (t : Step) → 1 ≤ s → s ≤ r .n
+    → replyOf r s t ≡ unless (groundIn (siteAt r s) s t (r .stopped) (r .net)) (settled (stepOf (siteAt r s) t .outcome) (stepOf (siteAt r s) t))
 unfolding replyOf isActor
-reply-at r s t x l m e =
-    simp (le-leb 1 s l, le-leb s (r .n) m)
-    (ap (λ (y : Site). unless (groundIn y s t (r .stopped) (r .net)) (settled (stepOf y t .outcome) (stepOf y t))) (sym e))
+reply-at r s t l m = simp (le-leb 1 s l, le-leb s (r .n) m)
 
 -- ---- what a reply comes to
 

@@ -8,7 +8,7 @@ ghost use lib.Dec.{eqb, leb};
 ghost use lib.ListN.{length};
 ghost use Rattle.sets.specs.Sets.{subset};
 ghost use Rattle.site.specs.Site.{soundOf};
-ghost use Rattle.run.specs.Run.{siteAt, withRecord, sentBy, stoppedAt, freshSite, freshRun};
+ghost use Rattle.run.specs.Run.{sentBy, stoppedAt, freshSite, freshRun};
 ghost use Rattle.run.specs.Sound.{every, soundPlace, soundRun};
 ghost use Rattle.run.specs.Event.{refusedRun, takenRun, freshOf, acted, stopped, happened, goesOf, eventOf};
 ghost use Rattle.run.specs.Reply.{thereIn, groundIn, deliveredIn, settled, replyOf};
@@ -253,25 +253,6 @@ impl Run {
         net::sound(&self.net, n, stopped)
     }
 
-    // The record of site s.
-    fn site_at(self, s: u8) -> Site
-        requires { ⌜ (1 ≤ s) × (s ≤ 8) ⌝ }
-        ensures { λ r. ⌜ r ≡ siteAt self s ⌝ }
-    {
-        let i = (s - 1) as usize;
-        self.sites[i]
-    }
-
-    // Another record for site s.
-    fn with_record(mut self, s: u8, site: Site) -> Run
-        requires { ⌜ (1 ≤ s) × (s ≤ 8) ⌝ }
-        ensures { λ r. ⌜ r ≡ withRecord self s site ⌝ }
-    {
-        let i = (s - 1) as usize;
-        self.sites[i] = site;
-        self
-    }
-
     // Site s is asked for a step: its answer, or the first of the grounds 2 to 6 on which the step is refused.
     fn reply(self, s: u8, step: Step) -> Reply
         requires { ⌜ self .n ≤ 8 ⌝ }
@@ -284,7 +265,8 @@ impl Run {
         if n < s {
             return Reply::Bad(2);
         }
-        let site = self.site_at(s);
+        let i = (s - 1) as usize;
+        let site = self.sites[i];
         let ground = ground(site, s, step, self.stopped, &self.net);
         if ground != 0 {
             return Reply::Bad(ground);
@@ -298,8 +280,10 @@ impl Run {
         requires { ⌜ (1 ≤ s) × (s ≤ 8) ⌝ }
         ensures { λ r. ⌜ r ≡ acted self s step answer ⌝ }
     {
+        let i = (s - 1) as usize;
         let site = answer.site;
-        let mut next = self.with_record(s, site);
+        let mut next = self;
+        next.sites[i] = site;
         deliver(&mut next.net, s, step);
         let entering = sets::minus(answer.to, next.stopped);
         net::send(&mut next.net, answer.kind, s, entering);

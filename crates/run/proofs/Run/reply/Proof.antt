@@ -5,6 +5,7 @@ use Prim.Native.Nat.{ℕ}
 use borrow.Author.Tests.{le-leb, lt-leb}
 use Rattle.site.specs.declared.Answer.{Answer}
 use Rattle.site.specs.Step.{stepOf}
+use Rattle.run.specs.Run.{siteAt}
 use Rattle.run.specs.Event.{isActor}
 use Rattle.run.specs.Reply.{settled, unless, unless-some, replyOf, reply-at}
 use borrow.Author.Needs.{needs}
@@ -19,8 +20,14 @@ returns-2 : tie.Need-returns-2
 unfolding replyOf isActor
 returns-2 c = simp (le-leb 1 _ (c .before .if1 .left), lt-leb _ _ (c .if2 .taken))
 
-site-at-requires : tie.Need-site-at-requires
-site-at-requires c κs = search needs
+cast-i : tie.Need-cast-i
+cast-i c = search needs
+
+mul-site : tie.Need-mul-site
+mul-site c = search needs
+
+element-copy-out-site : tie.Need-element-copy-out-site
+element-copy-out-site c = search needs
 
 ground-requires : tie.Need-ground-requires
 ground-requires c κs = search needs
@@ -28,8 +35,8 @@ ground-requires c κs = search needs
 returns-3 : tie.Need-returns-3
 returns-3 c =
     sym
-    (reply-at (c .before .before .before .before .before .before .before .args .t1) (c .before .before .before .before .before .before .before .args .s) (c .before .before .before .before .before .before .before .args .step) (c .before .before .before .before .site-at .result) (c .before .before .before .before .before .before .if1 .left) (c .before .before .before .before .before .if2 .left) (c .before .before .before .before .site-at .ensures)
-    ∙ ap (λ (g : ℕ). unless g (settled (stepOf (c .before .before .before .before .site-at .result) (c .before .before .before .before .before .before .before .args .step) .outcome) (stepOf (c .before .before .before .before .site-at .result) (c .before .before .before .before .before .before .before .args .step)))) (sym (c .before .ground .ensures))
+    (reply-at (c .before .before .before .before .before .before .before .args .t1) (c .before .before .before .before .before .before .before .args .s) (c .before .before .before .before .before .before .before .args .step) (c .before .before .before .before .before .before .if1 .left) (c .before .before .before .before .before .if2 .left)
+    ∙ ap (λ (g : ℕ). unless g (settled (stepOf (siteAt (c .before .before .before .before .before .before .before .args .t1) (c .before .before .before .before .before .before .before .args .s)) (c .before .before .before .before .before .before .before .args .step) .outcome) (stepOf (siteAt (c .before .before .before .before .before .before .before .args .t1) (c .before .before .before .before .before .before .before .args .s)) (c .before .before .before .before .before .before .before .args .step)))) (sym (c .before .ground .ensures))
     ∙ unless-some (c .before .ground .result) _ (c .if3 .taken))
 
 step-requires : tie.Need-step-requires
@@ -43,8 +50,8 @@ returns-4 c =
     c .settled .ensures
     ∙ ap (λ (a : Answer). settled (a .outcome) a) (c .before .step .ensures)
     ∙ sym
-    (reply-at (c .before .before .before .before .before .before .before .before .before .args .t1) (c .before .before .before .before .before .before .before .before .before .args .s) (c .before .before .before .before .before .before .before .before .before .args .step) (c .before .before .before .before .before .before .site-at .result) (c .before .before .before .before .before .before .before .before .if1 .left) (c .before .before .before .before .before .before .before .if2 .left) (c .before .before .before .before .before .before .site-at .ensures)
-    ∙ ap (λ (g : ℕ). unless g (settled (stepOf (c .before .before .before .before .before .before .site-at .result) (c .before .before .before .before .before .before .before .before .before .args .step) .outcome) (stepOf (c .before .before .before .before .before .before .site-at .result) (c .before .before .before .before .before .before .before .before .before .args .step)))) (sym (c .before .before .before .ground .ensures) ∙ c .before .before .if3 .left))
+    (reply-at (c .before .before .before .before .before .before .before .before .before .args .t1) (c .before .before .before .before .before .before .before .before .before .args .s) (c .before .before .before .before .before .before .before .before .before .args .step) (c .before .before .before .before .before .before .before .before .if1 .left) (c .before .before .before .before .before .before .before .if2 .left)
+    ∙ ap (λ (g : ℕ). unless g (settled (stepOf (siteAt (c .before .before .before .before .before .before .before .before .before .args .t1) (c .before .before .before .before .before .before .before .before .before .args .s)) (c .before .before .before .before .before .before .before .before .before .args .step) .outcome) (stepOf (siteAt (c .before .before .before .before .before .before .before .before .before .args .t1) (c .before .before .before .before .before .before .before .before .before .args .s)) (c .before .before .before .before .before .before .before .before .before .args .step)))) (sym (c .before .before .before .ground .ensures) ∙ c .before .before .if3 .left))
 
 pub reply-spec : {M : Type 1} → statement M
 reply-spec =
@@ -52,7 +59,9 @@ reply-spec =
     (tie.spec
     returns
     returns-2
-    site-at-requires
+    cast-i
+    mul-site
+    element-copy-out-site
     ground-requires
     returns-3
     step-requires
