@@ -12,7 +12,7 @@ use lib.Dec.{eqb, leb, ltb}
 use lib.ListN.{length, getD, List·getD-eq-default}
 use Rattle.sheet.specs.Index.{any, table}
 use Rattle.sheet.specs.IndexLaws.{any-at, any-some, and-true, or-neither, table-at, length-table}
-use Rattle.sheet.specs.Record.{byte, wordAt, sitesOf, countOf, countsOf, markOf, movesOf, movesAt, transitionAt, transitionFrom, transitionOf, partsBy, partsOf, statesOf, markIn, moveOf, noTransition, lengthOf, lengthFor}
+use Rattle.sheet.specs.Record.{byte, wordAt, sitesOf, countOf, countsOf, markOf, movesOf, movesAt, transitionAt, transitionFrom, transitionIn, transitionOf, partsBy, partsOf, statesOf, markIn, moveOf, noTransition, lengthOf, lengthFor}
 use Rattle.sheet.specs.Grounds.{outside, miscountedAt, miscounted, mismeasuredBy, mismarked, misplaced, unranged, readsNothing, shares, readElsewhere, leaves, undoes, someMove, goes, leads}
 use Rattle.sheet.specs.GroundLaws.{Framed, Ordered, Passes}
 use Rattle.sheet.specs.Paths.{Cycle}
@@ -125,7 +125,7 @@ mark-none l k h = go (decLt k 32)
     go (no b) = mark-past l k (omega arith)
 
 move-none : (l : List ℕ) (k : ℕ) → movesOf l (sitesOf l) (countsOf l) ≤ k → moveOf (partsOf l) k ≡ noTransition
-unfolding partsBy transitionOf
+unfolding partsBy transitionIn
 move-none l k h = go (decLt k 64)
   where
     f : ℕ → Transition
@@ -184,7 +184,7 @@ module _ (l : List ℕ) (p : Passes l) where
   -- transition k of the parts is read from its twelve bytes
   move-is : (k : ℕ) → k < movesOf l (sitesOf l) (countsOf l)
       → moveOf (partsOf l) k ≡ transitionFrom l (transitionAt (sitesOf l) (countsOf l) k)
-  unfolding partsBy transitionOf
+  unfolding partsBy transitionIn
   move-is k h =
       let few = moves-few l (p .frame) in
       table-at (transitionOf l (sitesOf l) (countsOf l)) 64 k noTransition (omega arith) ∙ simp (lt-ltb _ _ h)

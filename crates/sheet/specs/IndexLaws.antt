@@ -4,7 +4,7 @@ use Prim.Native.Nat.{ℕ, zero, suc, _+_, _≤_, _<_}
 use mathlib.Core.Bool.{Bool, true, false, _&&_, _||_, false≢true, or-true}
 use mathlib.Core.List.{List, [], _∷_, _++_}
 use mathlib.Core.Path.{_≡_, refl, sym, ap, ap₂, _∙_}
-use native.Mathlib.Decide.{ℕ-discrete}
+use native.Mathlib.Decide.{ℕ-discrete, decLt}
 use native.Mathlib.Numerals.{add-one}
 use native.Mathlib.Omega.{arith}
 use lib.ListN.{length, getD, set, length-set, length-append, List·getD-append}
@@ -126,6 +126,15 @@ module _ {A : Type 0} where
       go k b (yes q) =
           ap (λ (x : ℕ). getD (set l n v) x d) q ∙ getD-set-same l n v d (omega (arith, r .long)) ∙ e ∙ ap f (sym q)
       go k b (no q) = getD-set-other l n k v d q ∙ r .at k (omega arith)
+
+  -- where f gives d from n on, and the list holds it there, all places are filled
+  pub filling-rest : {f : ℕ → A} {d : A} {m n : ℕ} {l : List A} → Filled f d m n l → ((k : ℕ) → n ≤ k → k < m → getD l k d ≡ d)
+      → ((k : ℕ) → n ≤ k → f k ≡ d) → Filled f d m m l
+  filling-rest {f} {d} {m} {n} {l} r rest none = record { within = omega arith; long = r .long; at = λ k b. go k b (decLt k n) }
+    where
+      go : (k : ℕ) → k < m → Dec (k < n) → getD l k d ≡ f k
+      go k b (yes h) = r .at k h
+      go k b (no h) = rest k (omega arith) b ∙ sym (none k (omega arith))
 
   pub filling-ends : {f : ℕ → A} {d : A} {m n : ℕ} {l : List A} → Filled f d m n l → m ≤ n → l ≡ table f m
   filling-ends {f} {d} {m} {n} {l} r h =

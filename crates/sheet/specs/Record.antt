@@ -86,9 +86,13 @@ transitionFrom l at =
       writes = wordAt l (at + 8);
     }
 
+-- transition k of as many as `moves`, the first of which stands at `start`; none from there on
+unfoldable pub transitionIn : List ℕ → ℕ → ℕ → ℕ → Transition
+transitionIn l start moves k = cond (ltb k moves) (transitionFrom l (start + 12 * k)) noTransition
+
 -- transition k, none from the number of transitions on
-unfoldable pub transitionOf : List ℕ → ℕ → List ℕ → ℕ → Transition
-transitionOf l n cs k = cond (ltb k (movesOf l n cs)) (transitionFrom l (transitionAt n cs k)) noTransition
+abbrev pub transitionOf : List ℕ → ℕ → List ℕ → ℕ → Transition
+transitionOf l n cs k = transitionIn l (movesAt n cs + 1) (movesOf l n cs) k
 
 -- the parts, by the counts
 unfoldable pub partsBy : List ℕ → ℕ → List ℕ → Sheet

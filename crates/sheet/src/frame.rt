@@ -26,7 +26,7 @@ pub(crate) fn frame_ground(bytes: &[u8]) -> u8
 fn is_misframed(bytes: &[u8]) -> bool
     ensures { λ r. ⌜ r ≡ misframed (now (bytes .entry)) ⌝ }
 {
-    let length = record::length_of(bytes);
+    let length = record::pair_at(bytes, 0) as usize;
     if bytes.len() < 2 {
         return true;
     }
@@ -69,16 +69,14 @@ fn is_miscounted(bytes: &[u8]) -> bool
 fn is_mismeasured(bytes: &[u8]) -> bool
     ensures { λ r. ⌜ r ≡ mismeasured (now (bytes .entry)) ⌝ }
 {
-    let sites = record::byte_at(bytes, 3) as usize;
-    let states = record::states_before(record::counts_of(bytes), 4);
-    let moves_at = 4 + sites + states + 4;
+    let moves_at = record::moves_at(bytes);
     let moves = record::byte_at(bytes, moves_at) as usize;
-    let length = record::length_of(bytes);
+    let length = record::pair_at(bytes, 0) as usize;
     if bytes.len() <= moves_at {
         return true;
     }
     if 64 < moves {
         return true;
     }
-    length != 2 + sites + states + 4 + 1 + 12 * moves
+    length != moves_at - 1 + 12 * moves
 }

@@ -10,14 +10,14 @@ mod frame; // frame.rt: grounds 21 to 24, about the bytes
 mod grounds; // grounds.rt: grounds 25 to 29, about the parts
 mod cycle; // cycle.rt: the search for a cycle
 
-// A transition of one site (01, "Protocol sheets"): messages are masks below 2^32, message m at weight 2^m.
+// A transition of one site (01, "Protocol sheets"): sets of messages are masks, message m at weight 2^m.
 pub struct Transition {
     pub site: u8,
     pub from: u8,
     pub to: u8,
     pub vote: u8,
-    pub reads: u64,
-    pub writes: u64,
+    pub reads: u32,
+    pub writes: u32,
 }
 
 // A protocol sheet's parts: number of sites, state counts, marks at 8 * (site - 1) + state, first messages,
@@ -26,7 +26,7 @@ pub struct Sheet {
     pub sites: u8,
     pub counts: [u8; 4],
     pub marks: [u8; 32],
-    pub first: u64,
+    pub first: u32,
     pub moves: usize,
     pub transitions: [Transition; 64],
 }

@@ -1,9 +1,9 @@
 // The parts of a record, read where 01's paragraph "Record" puts them. A byte past the end counts as 0, so that every function is for every slice.
 ghost use mathlib.Core.Path.{_≡_};
-ghost use Prim.Native.Nat.{_^_, _≤_, _<_};
+ghost use Prim.Native.Nat.{_+_, _*_, _^_, _≤_, _<_};
 ghost use lib.ListN.{getD};
 ghost use Rattle.sheet.specs.Index.{table};
-ghost use Rattle.sheet.specs.Record.{byte, lengthOf, wordAt, countOf, countsOf, statesBefore, markOf, transitionFrom, transitionOf, partsOf};
+ghost use Rattle.sheet.specs.Record.{byte, wordAt, sitesOf, countOf, countsOf, statesBefore, movesAt, movesOf, markOf, transitionFrom, transitionIn, partsOf};
 use super::Sheet;
 use super::Transition;
 
@@ -17,25 +17,24 @@ pub(crate) fn byte_at(bytes: &[u8], at: usize) -> u8
     0
 }
 
-// The length that the record says.
-pub(crate) fn length_of(bytes: &[u8]) -> usize
-    ensures { λ r. ⌜ (r ≡ lengthOf (now (bytes .entry))) × (r < 2 ^ 16) ⌝ }
+// Two bytes, big-endian.
+pub(crate) fn pair_at(bytes: &[u8], at: usize) -> u32
+    requires { ⌜ at < 2 ^ 32 ⌝ }
+    ensures { λ r. ⌜ (r ≡ byte (now (bytes .entry)) at * 256 + byte (now (bytes .entry)) (at + 1)) × (r < 2 ^ 16) ⌝ }
 {
-    let high = byte_at(bytes, 0) as usize;
-    let low = byte_at(bytes, 1) as usize;
+    let high = byte_at(bytes, at) as u32;
+    let low = byte_at(bytes, at + 1) as u32;
     high * 256 + low
 }
 
 // Four bytes, big-endian.
-fn word_at(bytes: &[u8], at: usize) -> u64
-    requires { ⌜ at < 2 ^ 32 ⌝ }
+fn word_at(bytes: &[u8], at: usize) -> u32
+    requires { ⌜ at < 2 ^ 20 ⌝ }
     ensures { λ r. ⌜ r ≡ wordAt (now (bytes .entry)) at ⌝ }
 {
-    let a = byte_at(bytes, at) as u64;
-    let b = byte_at(bytes, at + 1) as u64;
-    let c = byte_at(bytes, at + 2) as u64;
-    let d = byte_at(bytes, at + 3) as u64;
-    ((a * 256 + b) * 256 + c) * 256 + d
+    let high = pair_at(bytes, at);
+    let low = pair_at(bytes, at + 2);
+    high * 65536 + low
 }
 
 // The state count of the site at place i, 0 for an absent site.
@@ -71,17 +70,26 @@ pub(crate) fn count_in(counts: [u8; 4], i: usize) -> u8
 }
 
 // The states of the sites before place i.
-pub(crate) fn states_before(counts: [u8; 4], i: usize) -> usize
+fn states_before(counts: [u8; 4], i: usize) -> usize
     requires { ⌜ i ≤ 4 ⌝ }
     ensures { λ r. ⌜ (r ≡ statesBefore counts i) × (r ≤ 1020) ⌝ }
 {
     let mut states: usize = 0;
     let mut j = 0;
     while j < i {
-        states += count_in(counts, j) as usize;
+        states += counts[j] as usize;
         j += 1;
     }
     states
+}
+
+// Where the number of transitions stands.
+pub(crate) fn moves_at(bytes: &[u8]) -> usize
+    ensures { λ r. ⌜ (r ≡ movesAt (sitesOf (now (bytes .entry))) (countsOf (now (bytes .entry)))) × (8 ≤ r) × (r ≤ 1283) ⌝ }
+{
+    let sites = byte_at(bytes, 3) as usize;
+    let counts = counts_of(bytes);
+    4 + sites + states_before(counts, 4) + 4
 }
 
 // The mark at place k, 0 where there is no such state.
@@ -91,7 +99,7 @@ fn mark_of(bytes: &[u8], sites: u8, counts: [u8; 4], k: usize) -> u8
 {
     let i = k / 8;
     let state = k % 8;
-    let count = count_in(counts, i) as usize;
+    let count = counts[i] as usize;
     let before = states_before(counts, i);
     if state < count {
         return byte_at(bytes, 4 + sites as usize + before + state);
@@ -127,43 +135,33 @@ fn transition_from(bytes: &[u8], at: usize) -> Transition
     }
 }
 
-// Transition k, none from the number of transitions on.
-fn transition_of(bytes: &[u8], sites: u8, counts: [u8; 4], k: usize) -> Transition
-    requires { ⌜ k < 64 ⌝ }
-    ensures { λ r. ⌜ r ≡ transitionOf (now (bytes .entry)) sites counts k ⌝ }
-{
-    let moves_at = 4 + sites as usize + states_before(counts, 4) + 4;
-    if k < byte_at(bytes, moves_at) as usize {
-        return transition_from(bytes, moves_at + 1 + 12 * k);
-    }
-    super::no_transition()
-}
-
-// The transitions at the 64 places.
-fn transitions_of(bytes: &[u8], sites: u8, counts: [u8; 4]) -> [Transition; 64]
-    ensures { λ r. ⌜ r ≡ table (transitionOf (now (bytes .entry)) sites counts) 64 ⌝ }
+// The transitions at the 64 places: `moves` of them, the first at a place of the record, and then none.
+fn transitions_of(bytes: &[u8], start: usize, moves: usize) -> [Transition; 64]
+    requires { ⌜ (start < 2 ^ 11) × (moves ≤ 64) ⌝ }
+    ensures { λ r. ⌜ r ≡ table (transitionIn (now (bytes .entry)) start moves) 64 ⌝ }
 {
     let none = super::no_transition();
     let mut transitions = [none; 64];
     let mut k = 0;
-    while k < 64 {
-        transitions[k] = transition_of(bytes, sites, counts, k);
+    while k < moves {
+        transitions[k] = transition_from(bytes, start + 12 * k);
         k += 1;
     }
     transitions
 }
 
-// The parts of a record.
+// The parts of a record with at most 64 transitions.
 pub(crate) fn parts(bytes: &[u8]) -> Sheet
+    requires { ⌜ movesOf (now bytes) (sitesOf (now bytes)) (countsOf (now bytes)) ≤ 64 ⌝ }
     ensures { λ r. ⌜ r ≡ partsOf (now (bytes .entry)) ⌝ }
 {
     let sites = byte_at(bytes, 3);
     let counts = counts_of(bytes);
-    let first_at = 4 + sites as usize + states_before(counts, 4);
-    let first = word_at(bytes, first_at);
-    let moves = byte_at(bytes, first_at + 4) as usize;
+    let at = moves_at(bytes);
+    let first = word_at(bytes, at - 4);
+    let moves = byte_at(bytes, at) as usize;
     let marks = marks_of(bytes, sites, counts);
-    let transitions = transitions_of(bytes, sites, counts);
+    let transitions = transitions_of(bytes, at + 1, moves);
     Sheet {
         sites,
         counts,

@@ -29,7 +29,10 @@ returns c =
     )
 
 parts-requires : tie.Need-parts-requires
-parts-requires c κs = search needs
+unfolding partsBy
+parts-requires c κs =
+    let l = c .before .before .before .args .bytes .now in
+    let few : partsOf l .moves ≤ 64 = moves-few l (framed l (sym (c .before .frame-ground .ensures) ∙ c .if1 .left)) in few
 
 parts-ground-requires : tie.Need-parts-ground-requires
 unfolding partsBy

@@ -6,8 +6,11 @@ use borrow.Author.Needs.{needs}
 use Rattle.sheet.proofs.frame.is_misframed.Statement.{statement}
 use Rattle.sheet.proofs.frame.is_misframed.Tie as tie
 
-length-of-requires : tie.Need-length-of-requires
-length-of-requires c κs = search needs
+pair-at-requires : tie.Need-pair-at-requires
+pair-at-requires c κs = search needs
+
+cast-length : tie.Need-cast-length
+cast-length c = search needs
 
 returns : tie.Need-returns
 unfolding misframed
@@ -18,11 +21,19 @@ add-if2 c = search needs
 
 returns-2 : tie.Need-returns-2
 unfolding misframed
-returns-2 c = simp (← c .before .before .length-of .ensures .0, le-ltb _ _ (c .before .if1 .left), ne-eqb _ _ (c .if2 .taken))
+returns-2 c = simp (← c .before .before .pair-at .ensures .0, le-ltb _ _ (c .before .if1 .left), ne-eqb _ _ (c .if2 .taken))
 
 returns-3 : tie.Need-returns-3
 unfolding misframed
-returns-3 c = simp (← c .before .before .length-of .ensures .0, le-ltb _ _ (c .before .if1 .left), eq-eqb _ _ (c .if2 .left))
+returns-3 c = simp (← c .before .before .pair-at .ensures .0, le-ltb _ _ (c .before .if1 .left), eq-eqb _ _ (c .if2 .left))
 
 pub is-misframed-spec : {M : Type 1} → statement M
-is-misframed-spec = tie.close (tie.spec length-of-requires returns add-if2 returns-2 returns-3)
+is-misframed-spec =
+    tie.close
+    (tie.spec
+    pair-at-requires
+    cast-length
+    returns
+    add-if2
+    returns-2
+    returns-3)

@@ -6,8 +6,8 @@ use borrow.Author.Needs.{needs}
 use Rattle.sheet.proofs.record.mark_of.Statement.{statement}
 use Rattle.sheet.proofs.record.mark_of.Tie as tie
 
-count-in-requires : tie.Need-count-in-requires
-count-in-requires c κs = search needs
+array-read-count : tie.Need-array-read-count
+array-read-count c = search needs
 
 cast-count : tie.Need-cast-count
 cast-count c = search needs
@@ -29,17 +29,17 @@ byte-at-requires c κs = search needs
 
 returns : tie.Need-returns
 unfolding markOf
-returns c = simp (← c .before .before .before .count-in .ensures, ← c .before .before .states-before .ensures .0, lt-ltb _ _ (c .before .if1 .taken)) (c .byte-at .ensures)
+returns c = simp (← c .before .before .states-before .ensures .0, lt-ltb _ _ (c .before .if1 .taken)) (c .byte-at .ensures)
 
 returns-2 : tie.Need-returns-2
 unfolding markOf
-returns-2 c = simp (← c .before .before .count-in .ensures, le-ltb _ _ (c .if1 .left))
+returns-2 c = simp (le-ltb _ _ (c .if1 .left))
 
 pub mark-of-spec : {M : Type 1} → statement M
 mark-of-spec =
     tie.close
     (tie.spec
-    count-in-requires
+    array-read-count
     cast-count
     states-before-requires
     add-byte-at

@@ -1,6 +1,9 @@
 -- `parts` meets its contract: each part is what is read at its place.
 -- Assumes nothing.
-use Rattle.sheet.specs.Record.{partsBy}
+use Prim.Native.Nat.{_-_}
+use mathlib.Core.Path.{_≡_}
+use native.Mathlib.Omega.{arith}
+use Rattle.sheet.specs.Record.{sitesOf, countsOf, firstAt, partsBy}
 use borrow.Author.Needs.{needs}
 use Rattle.sheet.proofs.record.parts.Statement.{statement}
 use Rattle.sheet.proofs.record.parts.Tie as tie
@@ -11,23 +14,14 @@ byte-at-requires c κs = search needs
 counts-of-requires : tie.Need-counts-of-requires
 counts-of-requires c κs = search needs
 
-cast-first-at : tie.Need-cast-first-at
-cast-first-at c = search needs
+moves-at-requires : tie.Need-moves-at-requires
+moves-at-requires c κs = search needs
 
-add-first-at : tie.Need-add-first-at
-add-first-at c = search needs
-
-states-before-requires : tie.Need-states-before-requires
-states-before-requires c κs = search needs
-
-add-first-at-2 : tie.Need-add-first-at-2
-add-first-at-2 c = search needs
+sub-word-at : tie.Need-sub-word-at
+sub-word-at c = search needs
 
 word-at-requires : tie.Need-word-at-requires
 word-at-requires c κs = search needs
-
-add-byte-at : tie.Need-add-byte-at
-add-byte-at c = search needs
 
 byte-at-requires-2 : tie.Need-byte-at-requires-2
 byte-at-requires-2 c κs = search needs
@@ -38,12 +32,18 @@ cast-moves c = search needs
 marks-of-requires : tie.Need-marks-of-requires
 marks-of-requires c κs = search needs
 
+add-transitions-of : tie.Need-add-transitions-of
+add-transitions-of c = search needs
+
 transitions-of-requires : tie.Need-transitions-of-requires
-transitions-of-requires c κs = search needs
+transitions-of-requires c κs = (omega (arith, c .before .before .before .moves-at .ensures .2), rw (c .before .byte-at2 .ensures, c .before .before .before .moves-at .ensures .0) (c .before .before .before .before .before .before .before .pre))
 
 returns : tie.Need-returns
 unfolding partsBy
-returns c = simp (c .transitions-of .ensures, c .before .marks-of .ensures, c .before .before .byte-at2 .ensures, c .before .before .before .word-at .ensures, c .before .before .before .before .states-before .ensures .0, c .before .before .before .before .before .counts-of .ensures, c .before .before .before .before .before .before .byte-at .ensures)
+returns c =
+    let l = c .before .before .before .before .before .before .before .before .args .bytes .now in
+    let first : firstAt (sitesOf l) (countsOf l) ≡ c .before .before .before .before .moves-at .result - 4 = omega (arith, c .before .before .before .before .moves-at .ensures .0) in
+    simp (c .transitions-of .ensures, c .before .marks-of .ensures, c .before .before .byte-at2 .ensures, c .before .before .before .word-at .ensures, ← first, c .before .before .before .before .moves-at .ensures .0, c .before .before .before .before .before .counts-of .ensures, c .before .before .before .before .before .before .byte-at .ensures)
 
 pub parts-spec : {M : Type 1} → statement M
 parts-spec =
@@ -51,14 +51,12 @@ parts-spec =
     (tie.spec
     byte-at-requires
     counts-of-requires
-    cast-first-at
-    add-first-at
-    states-before-requires
-    add-first-at-2
+    moves-at-requires
+    sub-word-at
     word-at-requires
-    add-byte-at
     byte-at-requires-2
     cast-moves
     marks-of-requires
+    add-transitions-of
     transitions-of-requires
     returns)

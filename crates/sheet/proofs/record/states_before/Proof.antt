@@ -2,31 +2,34 @@
 -- Assumes nothing.
 use Prim.Native.Nat.{_*_, _-_, _≤_}
 use mathlib.Core.Path.{_≡_, ap, _∙_}
+use native.Mathlib.Omega.{arith}
+use borrow.Author.Needs.{needs}
+use mir.Syntax.{w8}
+use mir.Val.{Fits}
 use lib.ListN.{getD}
 use Rattle.sheet.specs.IndexLaws.{sum-none, sum-more}
 use Rattle.sheet.specs.Record.{statesBefore}
-use native.Mathlib.Omega.{arith}
 use Rattle.sheet.proofs.record.states_before.Statement.{statement}
 use Rattle.sheet.proofs.record.states_before.Tie as tie
 
 abbrev Inv-loop : tie.InvT-loop
-Inv-loop counts i states₀ j₀ states j = (j ≤ i) × (states ≡ statesBefore counts j) × (states ≤ 255 * j)
+Inv-loop i counts states₀ j₀ states j = (j ≤ i) × (states ≡ statesBefore counts j) × (states ≤ 255 * j)
 
 abbrev μ-loop : tie.MeasureT-loop
-μ-loop counts i states₀ j₀ states j = i - j
+μ-loop i counts states₀ j₀ states j = i - j
 
 loop-holds : tie.Need-loop-holds Inv-loop μ-loop
 unfolding statesBefore
-loop-holds c = (omega arith, omega (arith, sum-none (λ j. getD (c .args .counts) j 0)), omega arith)
+loop-holds c = (omega arith, omega (arith, sum-none (λ j. getD (c .args .t1) j 0)), omega arith)
 
-count-in-requires : tie.Need-count-in-requires Inv-loop μ-loop
-count-in-requires c κs = omega arith
+array-read-states : tie.Need-array-read-states Inv-loop μ-loop
+array-read-states c = omega arith
 
 cast-states : tie.Need-cast-states Inv-loop μ-loop
-cast-states c = omega arith
+cast-states c = search needs
 
 add-states : tie.Need-add-states Inv-loop μ-loop
-add-states c = omega arith
+add-states c = let b : Fits w8 (getD (c .before .before .args .t1) (c .before .loop .j) 0) = search needs in omega (arith, b .fits)
 
 add-j : tie.Need-add-j Inv-loop μ-loop
 add-j c = omega arith
@@ -37,9 +40,9 @@ loop-less c = omega arith
 loop-again : tie.Need-loop-again Inv-loop μ-loop
 unfolding statesBefore
 loop-again c =
-    let counts = c .before .before .before .args .counts in
-    let more = sum-more (λ j. getD counts j 0) (c .before .before .loop .j) in
-    (omega arith, omega (arith, more, c .count-in .ensures, c .before .before .loop .inv .1), omega (arith, c .count-in .ok))
+    let b : Fits w8 (getD (c .before .before .args .t1) (c .before .loop .j) 0) = search needs in
+    let more = sum-more (λ j. getD (c .before .before .args .t1) j 0) (c .before .loop .j) in
+    (omega arith, omega (arith, more, c .before .loop .inv .1), omega (arith, b .fits))
 
 returns : tie.Need-returns Inv-loop μ-loop
 returns c = (c .before .loop .inv .1 ∙ ap (statesBefore _) (omega arith), omega arith)
@@ -51,7 +54,7 @@ states-before-spec =
     Inv-loop
     μ-loop
     loop-holds
-    count-in-requires
+    array-read-states
     cast-states
     add-states
     add-j
