@@ -2,7 +2,7 @@
 -- Assumes nothing.
 use borrow.Author.Tests.{lt-leb}
 use native.Mathlib.Omega.{arith}
-use Prim.Native.Nat.{_+_, _-_}
+use Prim.Native.Nat.{_+_}
 use Rattle.text.specs.Text.{fits}
 use Rattle.text.specs.TextLaws.{room-left}
 use Rattle.text.proofs.has_room.Statement.{statement}
