@@ -8,7 +8,9 @@ use native.Mathlib.Numerals.{add-one}
 use native.Mathlib.Omega.{arith}
 use lib.ListN.{length, getD, set, take, drop, length-append, length-take, length-drop, length-map, drop-of-length-le}
 use lib.Seq.{take-all, take-at, drop-at, drop-drop, drop-cons, take-suc, set-at, append-snoc, length-take-le}
+use borrow.Author.Tests.{le-leb}
 use borrow.Rule.Slice.PartMut.{putMid}
+use Rattle.text.specs.Text.{fits, spliced}
 
 -- an array of structs in a struct has its length
 pub length-mapped : (A B : Type 0) (f : A → B) (l : List A) (n : ℕ) → length (map f l) ≡ n → length l ≡ n
@@ -32,6 +34,11 @@ part-put p q ys at k l last seam e w =
     ∙ ap (λ (x : List ℕ). take at x ++ last) e
     ∙ ap (λ (x : List ℕ). x ++ last) (take-at p q at seam)
     ∙ ap (λ (x : List ℕ). p ++ x) (w ∙ ap (λ (x : List ℕ). ys ++ drop k x) (tail-is l at ∙ ap (drop at) e ∙ drop-at p q at seam))
+
+-- a part that fits, put at the front
+pub put-front : (part l : List ℕ) → 0 + length part ≤ length l → spliced l 0 part ≡ take 0 l ++ (part ++ drop (0 + length part) l)
+unfolding spliced fits
+put-front part l h = simp (le-leb _ _ h)
 
 -- ---- the first j elements of s, then what d has there
 

@@ -130,9 +130,7 @@ fn refuse(room: &mut [u8], ground: u8) -> u8
     requires { ⌜ 3 ≤ length (now room) ⌝ }
     ensures { λ r. ⌜ (r ≡ ground) × (now (room .exit) ≡ 2 ∷ 0 ∷ 0 ∷ drop 3 (now (room .entry))) ⌝ }
 {
-    room[0] = 2;
-    room[1] = 0;
-    room[2] = 0;
+    text::put(room, 0, &[2, 0, 0]);
     ground
 }
 
@@ -140,9 +138,11 @@ fn put_ran(room: &mut [u8], outcome: Outcome, counts: Counts)
     requires { ⌜ 3 ≤ length (now room) ⌝ }
     ensures { λ _. ⌜ now (room .exit) ≡ outcomeByte outcome ∷ counts .written ∷ counts .awaited ∷ drop 3 (now (room .entry)) ⌝ }
 {
-    room[0] = outcome_byte(outcome);
-    room[1] = counts.written;
-    room[2] = counts.awaited;
+    text::put(
+        room,
+        0,
+        &[outcome_byte(outcome), counts.written, counts.awaited],
+    );
 }
 
 // An event of the run whose bytes these are. Returns 0 or the event's own refusal.

@@ -42,12 +42,15 @@ fn put_local(part: &mut [u8], local: Local)
     ensures { λ _. ⌜ now (part .exit) ≡ localBytes local ++ drop 6 (now (part .entry)) ⌝ }
 {
     let set = local.concurrent;
-    part[0] = flags(local.reached, local.committable);
-    part[1] = local.decision;
-    part[2] = low_byte(set / 16777216);
-    part[3] = low_byte(set / 65536);
-    part[4] = low_byte(set / 256);
-    part[5] = low_byte(set);
+    let row = [
+        flags(local.reached, local.committable),
+        local.decision,
+        low_byte(set / 16777216),
+        low_byte(set / 65536),
+        low_byte(set / 256),
+        low_byte(set),
+    ];
+    text::put(part, 0, &row);
 }
 
 fn put_locals(part: &mut [u8], locals: [Local; 32])
@@ -67,20 +70,23 @@ fn put_head(out: &mut [u8], verdict: Verdict)
     ensures { λ _. ⌜ now (out .exit) ≡ headBytes verdict ++ drop 14 (now (out .entry)) ⌝ }
 {
     let states = verdict.states as u64;
-    out[0] = verdict.sites;
-    out[1] = low_byte(states / 256);
-    out[2] = low_byte(states);
-    out[3] = flag(verdict.nonblocking);
-    out[4] = verdict.site;
-    out[5] = verdict.state;
-    out[6] = verdict.condition;
-    out[7] = verdict.tolerance;
-    out[8] = 0;
-    out[9] = 0;
-    out[10] = 0;
-    out[11] = 0;
-    out[12] = 0;
-    out[13] = 0;
+    let head = [
+        verdict.sites,
+        low_byte(states / 256),
+        low_byte(states),
+        flag(verdict.nonblocking),
+        verdict.site,
+        verdict.state,
+        verdict.condition,
+        verdict.tolerance,
+        0,
+        0,
+        0,
+        0,
+        0,
+        0,
+    ];
+    text::put(out, 0, &head);
 }
 
 fn put_verdict(out: &mut [u8], verdict: Verdict)

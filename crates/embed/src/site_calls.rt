@@ -76,14 +76,17 @@ pub(crate) fn put_site(bytes: &mut [u8], site: Site)
     ensures { λ _. ⌜ now (bytes .exit) ≡ siteBytes site ++ drop 8 (now (bytes .entry)) ⌝ }
 {
     let state = site.state;
-    bytes[0] = site.n;
-    bytes[1] = site.number;
-    bytes[2] = state_byte(state);
-    bytes[3] = site.leader;
-    bytes[4] = site.known;
-    bytes[5] = site.yes;
-    bytes[6] = site.no;
-    bytes[7] = site.acked;
+    let row = [
+        site.n,
+        site.number,
+        state_byte(state),
+        site.leader,
+        site.known,
+        site.yes,
+        site.no,
+        site.acked,
+    ];
+    text::put(bytes, 0, &row);
 }
 
 // Are these the bytes of a record?
@@ -108,11 +111,7 @@ fn refuse(room: &mut [u8], ground: u8) -> u8
     requires { ⌜ 5 ≤ length (now room) ⌝ }
     ensures { λ r. ⌜ (r ≡ ground) × (now (room .exit) ≡ 2 ∷ 0 ∷ 0 ∷ 0 ∷ 0 ∷ drop 5 (now (room .entry))) ⌝ }
 {
-    room[0] = 2;
-    room[1] = 0;
-    room[2] = 0;
-    room[3] = 0;
-    room[4] = 0;
+    text::put(room, 0, &[2, 0, 0, 0, 0]);
     ground
 }
 
@@ -121,11 +120,14 @@ fn put_answer(room: &mut [u8], answer: Answer)
     ensures { λ _. ⌜ now (room .exit) ≡ answerBytes answer ++ drop 5 (now (room .entry)) ⌝ }
 {
     let outcome = answer.outcome;
-    room[0] = outcome_byte(outcome);
-    room[1] = answer.kind;
-    room[2] = answer.to;
-    room[3] = answer.counts.written;
-    room[4] = answer.counts.awaited;
+    let row = [
+        outcome_byte(outcome),
+        answer.kind,
+        answer.to,
+        answer.counts.written,
+        answer.counts.awaited,
+    ];
+    text::put(room, 0, &row);
 }
 
 // A step of the site whose bytes these are. Returns 0 or the step's own refusal.

@@ -1,29 +1,23 @@
 -- `embed::run_calls::refuse` meets its contract.
 -- Assumes nothing.
-use native.Mathlib.Omega.{arith}
 use mathlib.Core.List.{[], _∷_}
-use mathlib.Core.Path.{refl}
-use lib.ListN.{length-set}
-use lib.Seq.{sets, sets-eq}
+use mathlib.Core.Path.{refl, _∙_}
+use Rattle.embed.proofs.Parts.{put-front}
 use borrow.Author.Needs.{needs}
 use Rattle.embed.proofs.run_calls.refuse.Statement.{statement}
 use Rattle.embed.proofs.run_calls.refuse.Tie as tie
 
-slice-write-room : tie.Need-slice-write-room
-slice-write-room c = search needs
+slice-aggregate-put : tie.Need-slice-aggregate-put
+slice-aggregate-put c = search needs
 
-slice-write-room-2 : tie.Need-slice-write-room-2
-slice-write-room-2 c = simp length-set (omega arith)
-
-slice-write-room-3 : tie.Need-slice-write-room-3
-slice-write-room-3 c = simp length-set (omega arith)
+put-requires : tie.Need-put-requires
+put-requires c κs = search needs
 
 same-length : tie.Need-same-length
 same-length c = search needs
 
 returns : tie.Need-returns
-returns c = (refl, sets-eq (2 ∷ 0 ∷ 0 ∷ []) (c .args .room .now) 0 (c .pre))
+returns c = (refl, c .before .before .put .ensures .1 ∙ put-front (2 ∷ 0 ∷ 0 ∷ []) (c .before .before .before .before .before .before .args .room .now) (c .before .before .before .before .before .before .pre))
 
 pub refuse-spec : {M : Type 1} → statement M
-refuse-spec =
-    tie.close (tie.spec slice-write-room slice-write-room-2 slice-write-room-3 same-length returns)
+refuse-spec = tie.close (tie.spec slice-aggregate-put put-requires same-length returns)

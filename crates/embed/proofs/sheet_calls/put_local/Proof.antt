@@ -1,9 +1,8 @@
 -- `embed::sheet_calls::put_local` meets its contract.
 -- Assumes nothing.
-use native.Mathlib.Omega.{arith}
-use lib.ListN.{length-set}
-use lib.Seq.{sets, sets-eq}
+use mathlib.Core.Path.{_∙_}
 use Rattle.embed.specs.SheetCalls.{localBytes}
+use Rattle.embed.proofs.Parts.{put-front}
 use borrow.Author.Needs.{needs}
 use Rattle.embed.proofs.sheet_calls.put_local.Statement.{statement}
 use Rattle.embed.proofs.sheet_calls.put_local.Tie as tie
@@ -11,57 +10,41 @@ use Rattle.embed.proofs.sheet_calls.put_local.Tie as tie
 flags-requires : tie.Need-flags-requires
 flags-requires c κs = search needs
 
-slice-write-part : tie.Need-slice-write-part
-slice-write-part c = search needs
-
-slice-write-part-2 : tie.Need-slice-write-part-2
-slice-write-part-2 c = simp length-set (omega arith)
-
 low-byte-requires : tie.Need-low-byte-requires
 low-byte-requires c κs = search needs
-
-slice-write-part-3 : tie.Need-slice-write-part-3
-slice-write-part-3 c = simp length-set (omega arith)
 
 low-byte-requires-2 : tie.Need-low-byte-requires-2
 low-byte-requires-2 c κs = search needs
 
-slice-write-part-4 : tie.Need-slice-write-part-4
-slice-write-part-4 c = simp length-set (omega arith)
-
 low-byte-requires-3 : tie.Need-low-byte-requires-3
 low-byte-requires-3 c κs = search needs
-
-slice-write-part-5 : tie.Need-slice-write-part-5
-slice-write-part-5 c = simp length-set (omega arith)
 
 low-byte-requires-4 : tie.Need-low-byte-requires-4
 low-byte-requires-4 c κs = search needs
 
-slice-write-part-6 : tie.Need-slice-write-part-6
-slice-write-part-6 c = simp length-set (omega arith)
+slice-aggregate-put : tie.Need-slice-aggregate-put
+slice-aggregate-put c = search needs
+
+put-requires : tie.Need-put-requires
+put-requires c κs = search needs
 
 same-length : tie.Need-same-length
 same-length c = search needs
 
 returns : tie.Need-returns
 unfolding localBytes
-returns c = simp (c .before .before .before .before .flags .ensures, c .before .before .before .low-byte .ensures, c .before .before .low-byte2 .ensures, c .before .low-byte3 .ensures, c .low-byte4 .ensures) (sets-eq (localBytes (c .before .before .before .before .before .before .args .local)) (c .before .before .before .before .before .before .args .part .now) 0 (c .before .before .before .before .before .before .pre))
+returns c = c .before .before .put .ensures .1 ∙ simp (c .before .before .before .before .before .before .before .before .before .flags .ensures, c .before .before .before .before .before .before .before .before .low-byte .ensures, c .before .before .before .before .before .before .before .low-byte2 .ensures, c .before .before .before .before .before .before .low-byte3 .ensures, c .before .before .before .before .before .low-byte4 .ensures) (put-front (localBytes (c .before .before .before .before .before .before .before .before .before .before .before .args .local)) (c .before .before .before .before .before .before .before .before .before .before .before .args .part .now) (c .before .before .before .before .before .before .before .before .before .before .before .pre))
 
 pub put-local-spec : {M : Type 1} → statement M
 put-local-spec =
     tie.close
     (tie.spec
     flags-requires
-    slice-write-part
-    slice-write-part-2
     low-byte-requires
-    slice-write-part-3
     low-byte-requires-2
-    slice-write-part-4
     low-byte-requires-3
-    slice-write-part-5
     low-byte-requires-4
-    slice-write-part-6
+    slice-aggregate-put
+    put-requires
     same-length
     returns)
