@@ -1,10 +1,11 @@
 //! Rows of the judge and of the report.
 
+use crate::plain;
 use crate::row::{Round, Row};
 use crate::side::Side;
-use compare::inputs::sheets::{any_case, product, renamed, Draft};
+use compare::inputs::sheets::{any_case, product, renamed, Draft, Move};
 use compare::inputs::{figures, Random};
-use compare::sheet::{Judging, AMPLE, OUT};
+use compare::sheet::{faulty, Judging, AMPLE, OUT};
 use std::hint::black_box;
 
 /// Judges sheets, each with the same words.
@@ -64,6 +65,44 @@ fn any_sheets() -> Vec<Vec<u8>> {
     (0..200).map(|_| any_case(&mut random).bytes).collect()
 }
 
+/// The slowest sheet that a search, at random and by construction, has found. Each site goes step by
+/// step through its states, numbered downwards so that later numbers come first, in one way or in
+/// two, of which the second leaves a message behind: 4,070 states. All other transitions are copies
+/// of site 2's only one, which is possible in half of them.
+fn hostile() -> Draft {
+    let ways: [&[u8]; 4] = [&[2, 1, 2, 1, 2, 2], &[1], &[2, 1], &[2, 1, 1, 2]];
+    let (mut moves, mut first, mut next) = (Vec::new(), 0, 0);
+    let mut message = || {
+        next += 1;
+        1u32 << (next - 1)
+    };
+    for (site, ways) in (1..).zip(ways) {
+        let steps = ways.len() as u8;
+        let name = |level: u8| if level == 0 { 0 } else { steps + 1 - level };
+        for (level, &ways) in (0..).zip(ways) {
+            let (from, to, reads) = (name(level), name(level + 1), message());
+            first |= reads;
+            moves.push(Move { site, from, to, vote: 0, reads, writes: 0 });
+            if ways == 2 {
+                moves.push(Move { site, from, to, vote: 0, reads, writes: message() });
+            }
+        }
+    }
+    if let Some(&single) = moves.iter().find(|a| a.site == 2) {
+        moves.resize(64, single);
+    }
+    let marks = ways.iter().map(|ways| vec![0; ways.len() + 1]).collect();
+    Draft::new(marks, first, moves)
+}
+
+/// Sheets that the reader refuses: each ground alone, and each after each other.
+fn refused() -> Vec<Vec<u8>> {
+    let cases = faulty(&mut Random::new(8)).into_iter().filter(|case| case.words == 4096);
+    let (mut words, mut out) = (vec![0; 4096], [0; OUT]);
+    let mut ground = |bytes: &[u8]| plain::sheet_judge(bytes, &mut words, &mut out);
+    cases.map(|case| case.bytes).filter(|bytes| (21..30).contains(&ground(bytes))).collect()
+}
+
 /// A row of sheets that have so many units each.
 fn judged(
     name: impl Into<String>,
@@ -94,7 +133,7 @@ fn reported(name: &str, sheets: impl Fn() -> Vec<Vec<u8>> + 'static) -> Row {
 }
 
 /// Small sheets, sheets of every sort, sheets by the number of their states up to the largest, the
-/// largest in other orders, and larger ones.
+/// largest in other orders, larger ones, the slowest one known, and such as the reader refuses.
 pub fn rows() -> Vec<Row> {
     let mut rows = vec![
         judged("judge-figures", ("sheet", 1), 300, figures),
@@ -105,6 +144,8 @@ pub fn rows() -> Vec<Row> {
     rows.push(judged("judge-4096-down", state, 30, || vec![against_the_order().bytes()]));
     rows.push(judged("judge-4096-mixed", state, 30, || reordered(&largest())));
     rows.push(judged("judge-4097-mixed", state, 30, || reordered(&product(&[8; 4], true))));
+    rows.push(judged("judge-hostile", ("state", 4070), 30, || vec![hostile().bytes()]));
+    rows.push(judged("judge-refused", ("sheet", 1), 30, refused));
     rows.push(reported("report-figures", figures));
     rows
 }
