@@ -1,26 +1,9 @@
 // Event records on bytes: reading one, writing one, and rehearsing a journal of them.
 
 ghost use mathlib.Core.Path.{_≡_};
-ghost use mathlib.Core.List.{_++_};
-ghost use Prim.Native.Nat.{_≤_};
-ghost use lib.ListN.{length, drop};
-ghost use Rattle.journal.specs.Record.{bodyOf, fieldsIn};
 ghost use Rattle.embed.specs.Bytes.{leaves};
 ghost use Rattle.embed.specs.RecordCalls.{readCall, writeCall, rehearseCall};
 use fields::Fields;
-
-// The body of a record, K S O M V X, copied to the front of a part.
-fn copy_body(to: &mut [u8], body: &[u8])
-    requires { ⌜ (6 ≤ length (now to)) × (6 ≤ length (now body)) ⌝ }
-    ensures { λ _. ⌜ now (to .exit) ≡ bodyOf (fieldsIn (now (body .entry))) ++ drop 6 (now (to .entry)) ⌝ }
-{
-    to[0] = body[0];
-    to[1] = body[1];
-    to[2] = body[2];
-    to[3] = body[3];
-    to[4] = body[4];
-    to[5] = body[5];
-}
 
 // The fields of the record at a place of a journal. Returns 0 or the refusal.
 #[no_mangle]
@@ -35,7 +18,8 @@ pub extern "C" fn fj_record_read(journal: &[u8], at: usize, fields: &mut [u8]) -
         return ground;
     }
     let from = at + 3;
-    copy_body(fields, &journal[from..]);
+    let to = at + 9;
+    text::put(fields, 0, &journal[from..to]);
     0
 }
 
