@@ -1,12 +1,11 @@
 -- Lists written from the front on, and parts of a slice that come back.
 -- Assumes nothing.
-use Prim.Native.Nat.{ℕ, zero, suc, _+_, _-_, _*_, _≤_, _<_}
+use Prim.Native.Nat.{ℕ, suc, _+_, _-_, _*_, _≤_, _<_}
 use mathlib.Core.List.{List, [], _∷_, _++_, map, flatMap, append-nil, append-assoc}
 use mathlib.Core.Path.{_≡_, refl, sym, ap, _∙_}
 use native.Mathlib.Nat.{le-of-eq, le-of-lt, add-comm, mul-zero, mul-suc, add-sub-of-le}
 use native.Mathlib.Numerals.{add-one}
-use native.Mathlib.Omega.{arith}
-use lib.ListN.{length, getD, set, take, drop, length-append, length-take, length-drop, length-map, drop-of-length-le}
+use lib.ListN.{length, getD, set, take, drop, length-append, length-drop, length-map, drop-of-length-le}
 use lib.Seq.{take-all, take-at, drop-at, drop-drop, drop-cons, take-suc, set-at, append-snoc, length-take-le}
 use borrow.Author.Tests.{le-leb}
 use borrow.Rule.Slice.PartMut.{putMid}
@@ -40,6 +39,13 @@ pub put-front : (part l : List ℕ) → 0 + length part ≤ length l → spliced
 unfolding spliced fits
 put-front part l h = simp (le-leb _ _ h)
 
+-- a part that fits, put at the seam of p and q
+pub put-seam : (p q part : List ℕ) (at : ℕ) (l : List ℕ) → length p ≡ at → l ≡ p ++ q → at + length part ≤ length l
+    → spliced l at part ≡ p ++ (part ++ drop (at + length part) l)
+unfolding spliced fits
+put-seam p q part at l seam e h =
+    simp (le-leb _ _ h) (ap (λ (x : List ℕ). x ++ (part ++ drop (at + length part) l)) (ap (take at) e ∙ take-at p q at seam))
+
 -- ---- the first j elements of s, then what d has there
 
 abbrev pub front : List ℕ → List ℕ → ℕ → List ℕ
@@ -52,9 +58,6 @@ front-more d s j hd hs =
     ∙ sym (append-snoc (take j s) (getD s j 0) (drop (suc j) d))
     ∙ ap (λ (r : List ℕ). r ++ drop (suc j) d) (sym (take-suc s j 0 hs))
     ∙ ap (λ (k : ℕ). take k s ++ drop k d) (sym (add-one j))
-
-pub length-front : (d s : List ℕ) (j : ℕ) → j ≤ length d → j ≤ length s → length (front d s j) ≡ length d
-length-front d s j hd hs = simp (length-append, length-take, length-drop) (omega arith)
 
 -- ---- elements written one after the other, each in w bytes
 

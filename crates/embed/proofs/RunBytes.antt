@@ -1,18 +1,19 @@
 -- For the proofs of the calls on runs: a run's bytes as they are written.
 -- Assumes nothing.
-use Prim.Native.Nat.{ℕ, _-_, _*_}
+use Prim.Native.Nat.{ℕ, _+_, _-_, _*_}
 use mathlib.Core.List.{List, [], _∷_, _++_, flatMap, append-nil}
-use mathlib.Core.Path.{_≡_, refl, ap, _∙_}
+use mathlib.Core.Path.{_≡_, refl, sym, ap, _∙_}
 use native.Mathlib.Nat.{le-of-eq}
 use native.Mathlib.Omega.{arith}
 use lib.ListN.{length, set, take, drop, length-append, length-drop, drop-of-length-le}
-use lib.Seq.{sets, sets-eq}
+use lib.Seq.{sets-eq}
 use borrow.Rule.Slice.PartMut.{putMid}
 use Rattle.site.specs.declared.Site.{Site}
 use Rattle.run.specs.declared.Run.{Run}
 use Rattle.embed.specs.Bytes.{siteBytes}
 use Rattle.embed.specs.RunCalls.{runBytes}
-use Rattle.embed.proofs.Parts.{part-put, flat-length}
+use Rattle.text.specs.Text.{spliced}
+use Rattle.embed.proofs.Parts.{part-put, put-seam, flat-length}
 
 -- a site has eight bytes
 pub site-wide : (s : Site) → length (siteBytes s) ≡ 8
@@ -38,21 +39,21 @@ module _ (l : List ℕ) (r : Run) (whole : length l ≡ 138) (eight : length (r 
     sites-are : sited ≡ (r .n ∷ r .stopped ∷ flatMap siteBytes (r .sites)) ++ drop 64 (drop 2 l)
     sites-are = part-put (r .n ∷ r .stopped ∷ []) (drop 2 l) (flatMap siteBytes (r .sites)) 2 64 headed a refl head-is w
 
-    pub sited-length : length sited ≡ 138
+    sited-length : length sited ≡ 138
     sited-length = ap length sites-are ∙ simp (length-append, sites-length, length-drop, whole, eight)
 
-    pub run-written : (b : List ℕ) → b ≡ r .net ++ drop 72 (take (length sited - 66) (drop 66 sited)) → putMid 66 (length sited - 66) sited b ≡ runBytes r
+    pub run-written : spliced sited 66 (r .net) ≡ runBytes r
     unfolding runBytes
-    run-written b v =
-        part-put (r .n ∷ r .stopped ∷ flatMap siteBytes (r .sites)) (drop 64 (drop 2 l)) (r .net) 66 72 sited b heads sites-are v
-        ∙ ap (λ (x : List ℕ). (r .n ∷ r .stopped ∷ flatMap siteBytes (r .sites)) ++ (r .net ++ x)) (drop-of-length-le (drop 64 (drop 2 l)) (le-of-eq rest))
+    run-written =
+        put-seam (r .n ∷ r .stopped ∷ flatMap siteBytes (r .sites)) (drop 64 (drop 2 l)) (r .net) 66 sited heads sites-are (le-of-eq whole-again)
+        ∙ ap (λ (x : List ℕ). (r .n ∷ r .stopped ∷ flatMap siteBytes (r .sites)) ++ (r .net ++ x)) (drop-of-length-le sited (le-of-eq (sym whole-again)))
         ∙ ap (λ (x : List ℕ). (r .n ∷ r .stopped ∷ flatMap siteBytes (r .sites)) ++ x) (append-nil (r .net))
       where
         heads : length (r .n ∷ r .stopped ∷ flatMap siteBytes (r .sites)) ≡ 66
         heads = simp (sites-length, eight)
 
-        rest : length (drop 64 (drop 2 l)) ≡ 72
-        rest = simp (length-drop, whole)
+        whole-again : 66 + length (r .net) ≡ length sited
+        whole-again = ap (λ (k : ℕ). 66 + k) full ∙ sym sited-length
 
 pub run-bytes-length : (r : Run) → length (r .sites) ≡ 8 → length (r .net) ≡ 72 → length (runBytes r) ≡ 138
 unfolding runBytes

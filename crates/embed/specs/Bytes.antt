@@ -1,10 +1,10 @@
 -- Records as bytes, and what a call on bytes returns and leaves.
 -- Assumes nothing.
-use Prim.Native.Nat.{ℕ, _+_, _*_}
-use mathlib.Core.Bool.{Bool, true, false, cond}
-use mathlib.Core.List.{List, [], _∷_, _++_, map}
+use Prim.Native.Nat.{ℕ, _+_}
+use mathlib.Core.Bool.{cond}
+use mathlib.Core.List.{List, [], _∷_}
 use lib.Dec.{eqb}
-use lib.ListN.{getD, take, drop}
+use lib.ListN.{getD}
 use Rattle.site.specs.declared.State.{State}
 use Rattle.site.specs.declared.State.the-variants.{Q, W, P, A, C}
 use Rattle.site.specs.declared.Outcome.{Outcome}

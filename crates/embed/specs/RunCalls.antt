@@ -1,7 +1,7 @@
 -- `fj_run_fresh` and `fj_run_event`: what they return, and what they leave of the slices.
 -- Assumes nothing.
 use Prim.Native.Nat.{ℕ, _+_, _*_}
-use mathlib.Core.Bool.{Bool, true, false, cond, _&&_}
+use mathlib.Core.Bool.{Bool, cond, _&&_}
 use mathlib.Core.List.{List, [], _∷_, _++_, map, flatMap}
 use lib.Dec.{eqb, ltb, leb}
 use lib.ListN.{length, getD, take, drop}

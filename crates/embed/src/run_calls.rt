@@ -85,16 +85,6 @@ fn put_sites(bytes: &mut [u8], sites: [Site; 8])
     }
 }
 
-// A network's bytes, put at the front of a part.
-fn put_net(bytes: &mut [u8], net: [u8; 72])
-    requires { ⌜ 72 ≤ length (now bytes) ⌝ }
-    ensures { λ _. ⌜ now (bytes .exit) ≡ net ++ drop 72 (now (bytes .entry)) ⌝ }
-{
-    for i in 0..72 {
-        bytes[i] = net[i];
-    }
-}
-
 // A run's bytes.
 fn put_run(bytes: &mut [u8], run: Run)
     requires { ⌜ length (now bytes) ≡ 138 ⌝ }
@@ -105,7 +95,7 @@ fn put_run(bytes: &mut [u8], run: Run)
     bytes[0] = run.n;
     bytes[1] = run.stopped;
     put_sites(&mut bytes[2..], sites);
-    put_net(&mut bytes[66..], net);
+    text::put(bytes, 66, &net);
 }
 
 // The fresh run of n sites. Returns 0 or the refusal.

@@ -1,6 +1,6 @@
 -- `embed::run_calls::fj_run_fresh` meets its contract.
 -- Assumes nothing.
-use mathlib.Core.Path.{_≡_, sym, ap}
+use mathlib.Core.Path.{sym, ap}
 use borrow.Author.Tests.{eq-eqb, ne-eqb}
 use Prim.Native.Nat.{ℕ}
 use Rattle.site.specs.declared.Outcome.{Outcome}

@@ -1,10 +1,10 @@
 -- `embed::run_calls::put_sites` meets its contract.
 -- Assumes nothing.
 use borrow.Author.Needs.{needs}
-use Prim.Native.Nat.{ℕ, _+_, _-_, _*_, _≤_, _<_}
-use mathlib.Core.List.{List, _++_, append-nil}
-use mathlib.Core.Path.{_≡_, refl, sym, ap, _∙_}
-use lib.ListN.{length, getD, take, drop, set, drop-of-length-le}
+use Prim.Native.Nat.{_-_, _≤_}
+use mathlib.Core.List.{List, _++_}
+use mathlib.Core.Path.{_≡_, refl, ap, _∙_}
+use lib.ListN.{length, drop}
 use lib.ListN.{length-take, length-drop}
 use lib.Seq.{take-all}
 use native.Mathlib.Omega.{arith}
