@@ -1,10 +1,12 @@
 // The lines of the report, each put from a place on; every function answers where its text ends.
 ghost use mathlib.Core.Path.{_≡_};
-ghost use Prim.Native.Nat.{_+_, _≤_, _<_};
-ghost use lib.ListN.{length, getD};
+ghost use mathlib.Core.Bool.{cond};
+ghost use mathlib.Core.List.{[]};
+ghost use Prim.Native.Nat.{_+_, _%_, _≤_, _<_};
+ghost use lib.Dec.{ltb};
+ghost use lib.ListN.{length};
 ghost use Rattle.text.specs.Text.{Put};
-ghost use Rattle.judge.specs.Facts.{stands};
-ghost use Rattle.report.specs.Report.{nameOf, markWord, yesWord, decisionWord, memberOf, memberIn, membersOf, setWord, lineOf, lineIn, linesOf, headLine, blockingLine, rulingLine, toleranceLine, refusedLine, acceptedText};
+ghost use Rattle.report.specs.Report.{nameOf, markWord, yesWord, decisionWord, memberOf, memberIn, membersOf, setWord, lineOf, linesOf, headLine, blockingLine, rulingLine, toleranceLine, refusedLine, acceptedText};
 use judge::Local;
 use judge::Verdict;
 use sheet::Sheet;
@@ -122,15 +124,11 @@ fn put_line(out: &mut [u8], at: usize, p: usize, mark: u8, local: Local) -> usiz
     put_decision(out, sure, decision)
 }
 
-// The line of local state p, where the sheet has it.
-fn put_if_standing(out: &mut [u8], at: usize, sheet: Sheet, locals: [Local; 32], p: usize) -> usize
-    requires { ⌜ (p < 32) × (at + length (lineIn sheet locals p) ≤ length (now out)) ⌝ }
-    ensures { λ r. ⌜ Put (now (out .entry)) at (lineIn sheet locals p) (now (out .exit)) r ⌝ }
+// The line of local state p, where its site, of `count` states, has it.
+fn put_if_standing(out: &mut [u8], at: usize, p: usize, count: u8, mark: u8, local: Local) -> usize
+    requires { ⌜ (p < 32) × (at + length (cond (ltb (p % 8) count) (lineOf p mark local) []) ≤ length (now out)) ⌝ }
+    ensures { λ r. ⌜ Put (now (out .entry)) at (cond (ltb (p % 8) count) (lineOf p mark local) []) (now (out .exit)) r ⌝ }
 {
-    let site = p / 8;
-    let count = sheet.counts[site];
-    let mark = sheet.marks[p];
-    let local = locals[p];
     if p % 8 < count as usize {
         return put_line(out, at, p, mark, local);
     }
@@ -145,7 +143,11 @@ fn put_lines(out: &mut [u8], at: usize, sheet: Sheet, locals: [Local; 32]) -> us
     let mut to = at;
     let mut p: usize = 0;
     while p < 32 {
-        to = put_if_standing(out, to, sheet, locals, p);
+        let site = p / 8;
+        let count = sheet.counts[site];
+        let mark = sheet.marks[p];
+        let local = locals[p];
+        to = put_if_standing(out, to, p, count, mark, local);
         p += 1;
     }
     to

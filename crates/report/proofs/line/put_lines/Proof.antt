@@ -4,6 +4,7 @@ use Prim.Native.Nat.{_-_}
 use mathlib.Core.Path.{refl}
 use borrow.Author.Needs.{needs}
 use Rattle.text.specs.TextLaws.{put-length}
+use Rattle.judge.specs.Facts.{stands}
 use Rattle.report.specs.Report.{lineIn}
 use Rattle.report.proofs.Putting.{Along, along-begins, along-fits, along-on, along-ends}
 use Rattle.report.proofs.line.put_lines.Statement.{statement}
@@ -18,8 +19,21 @@ abbrev μ-loop : tie.MeasureT-loop
 loop-holds : tie.Need-loop-holds Inv-loop μ-loop
 loop-holds c = along-begins _ _ _ _ (c .before .pre)
 
+element-copy-out-count : tie.Need-element-copy-out-count Inv-loop μ-loop
+element-copy-out-count c = search needs
+
+element-copy-out-mark : tie.Need-element-copy-out-mark Inv-loop μ-loop
+element-copy-out-mark c = search needs
+
+mul-local : tie.Need-mul-local Inv-loop μ-loop
+mul-local c = search needs
+
+array-copy-out-local : tie.Need-array-copy-out-local Inv-loop μ-loop
+array-copy-out-local c = search needs
+
 put-if-standing-requires : tie.Need-put-if-standing-requires Inv-loop μ-loop
-put-if-standing-requires c κs = (c .before .loop-test .taken, along-fits _ (c .before .before .loop .inv) (c .before .loop-test .taken))
+unfolding lineIn stands
+put-if-standing-requires c κs = (c .before .before .before .before .loop-test .taken, along-fits _ (c .before .before .before .before .before .loop .inv) (c .before .before .before .before .loop-test .taken))
 
 add-p : tie.Need-add-p Inv-loop μ-loop
 add-p c = search needs
@@ -28,7 +42,8 @@ loop-less : tie.Need-loop-less Inv-loop μ-loop
 loop-less c = search needs
 
 loop-again : tie.Need-loop-again Inv-loop μ-loop
-loop-again c = along-on _ (c .before .before .before .before .before .loop .inv) (c .before .before .before .before .loop-test .taken) refl (c .before .before .put-if-standing .ensures)
+unfolding lineIn stands
+loop-again c = along-on _ (c .before .before .before .before .before .before .before .before .loop .inv) (c .before .before .before .before .before .before .before .loop-test .taken) refl (c .before .before .put-if-standing .ensures)
 
 same-length : tie.Need-same-length Inv-loop μ-loop
 same-length c = put-length (c .before .loop .inv .put)
@@ -43,6 +58,10 @@ put-lines-spec =
     Inv-loop
     μ-loop
     loop-holds
+    element-copy-out-count
+    element-copy-out-mark
+    mul-local
+    array-copy-out-local
     put-if-standing-requires
     add-p
     loop-less
