@@ -15,9 +15,10 @@ use Rattle.site.specs.Site.{namesOf}
 use Rattle.site.specs.Step.{stepOf}
 use Rattle.run.specs.declared.Run.{Run}
 use Rattle.run.specs.declared.Event.the-variants.{Act, Stop, Cut}
+use Rattle.run.specs.declared.Ran.{Ran}
 use Rattle.run.specs.Run.{siteAt, hasStopped, stoppedAt}
 use Rattle.run.specs.Sound.{soundRun}
-use Rattle.run.specs.Event.{none, refusedRun, isActor, isThere, acted, cutShort, ranStep, grounded, stopped, eventOf}
+use Rattle.run.specs.Event.{none, refusedRun, takenRun, isActor, isThere, acted, cutShort, ranStep, grounded, stopped, eventOf}
 use Rattle.sets.specs.Truths.{and-l, and-r}
 use Rattle.promise.specs.RunViews.{Runs}
 
@@ -27,6 +28,13 @@ Accepted Taken = Unit
 Accepted Passed = Unit
 Accepted (Refused g) = ⊥
 
+-- What an accepted step of site s does, whole and cut short.
+abbrev wholly : Run → ℕ → Step → Ran
+wholly r s t = record { run = acted r s t (stepOf (siteAt r s) t); outcome = stepOf (siteAt r s) t .outcome; counts = stepOf (siteAt r s) t .counts }
+
+abbrev partly : Run → ℕ → Step → ℕ → Ran
+partly r s t x = takenRun (cutShort r s (stepOf (siteAt r s) t) x) (countOf (both (stepOf (siteAt r s) t .to) x))
+
 -- What an accepted step of site s needs, whole or cut short.
 pub record Allowed (r : Run) (s : ℕ) (t : Step) : Type 0 where
   pub sound : soundRun r ≡ true
@@ -35,10 +43,8 @@ pub record Allowed (r : Run) (s : ℕ) (t : Step) : Type 0 where
   pub there : isThere r s t ≡ true
   pub accepted : Accepted (stepOf (siteAt r s) t .outcome)
   -- and what it does
-  pub whole : eventOf r (Act s t) ≡ record { run = acted r s t (stepOf (siteAt r s) t); outcome = stepOf (siteAt r s) t .outcome; counts = stepOf (siteAt r s) t .counts }
-  pub part : (x : ℕ)
-      → eventOf r (Cut s t x)
-      ≡ record { run = cutShort r s (stepOf (siteAt r s) t) x; outcome = Taken; counts = record { written = countOf (both (stepOf (siteAt r s) t .to) x); awaited = 0 } }
+  pub whole : eventOf r (Act s t) ≡ wholly r s t
+  pub part : (x : ℕ) → eventOf r (Cut s t x) ≡ partly r s t x
 
 -- A refused step: with a ground below 5, or with the site's own.
 pub record Denied (r : Run) (s : ℕ) (t : Step) : Type 0 where
@@ -68,32 +74,20 @@ module _ (r : Run) (s : ℕ) where
     unfolding eventOf grounded
     decide = go (soundRun r) (isActor r s && namesOf (siteAt r s) t) (hasStopped r s) (isThere r s t) (stepOf (siteAt r s) t .outcome) refl refl refl refl refl
       where
+        -- no ground holds, and the site accepts the step
+        clear : soundRun r ≡ true → (isActor r s && namesOf (siteAt r s) t) ≡ true → hasStopped r s ≡ false → isThere r s t ≡ true
+            → Accepted (stepOf (siteAt r s) t .outcome) → eventOf r (Act s t) ≡ wholly r s t → ((x : ℕ) → eventOf r (Cut s t x) ≡ partly r s t x) → Allowed r s t
+        clear p q u v ok e f =
+            record { sound = p; runs = actor (and-l _ _ q) u; names = and-r (isActor r s) _ q; there = v; accepted = ok; whole = e; part = f }
+
         go : (a b c d : Bool) (o : Outcome) → soundRun r ≡ a → (isActor r s && namesOf (siteAt r s) t) ≡ b → hasStopped r s ≡ c → isThere r s t ≡ d
             → stepOf (siteAt r s) t .outcome ≡ o → Allowed r s t ⊎ Denied r s t
         go false b c d o p q u v w = inr (record { ground = 1; whole = simp p; part = λ x. simp p; why = inl (omega arith) })
         go true false c d o p q u v w = inr (record { ground = 2; whole = simp (p, q); part = λ x. simp (p, q); why = inl (omega arith) })
         go true true true d o p q u v w = inr (record { ground = 3; whole = simp (p, q, u); part = λ x. simp (p, q, u); why = inl (omega arith) })
         go true true false false o p q u v w = inr (record { ground = 4; whole = simp (p, q, u, v); part = λ x. simp (p, q, u, v); why = inl (omega arith) })
-        go true true false true Taken p q u v w =
-            inl (record {
-              sound = p;
-              runs = actor (and-l (isActor r s) (namesOf (siteAt r s) t) q) u;
-              names = and-r (isActor r s) (namesOf (siteAt r s) t) q;
-              there = v;
-              accepted = rw w tt;
-              whole = simp (p, q, u, v, w);
-              part = λ x. simp (p, q, u, v, w);
-            })
-        go true true false true Passed p q u v w =
-            inl (record {
-              sound = p;
-              runs = actor (and-l (isActor r s) (namesOf (siteAt r s) t) q) u;
-              names = and-r (isActor r s) (namesOf (siteAt r s) t) q;
-              there = v;
-              accepted = rw w tt;
-              whole = simp (p, q, u, v, w);
-              part = λ x. simp (p, q, u, v, w);
-            })
+        go true true false true Taken p q u v w = inl (clear p q u v (rw w tt) (simp (p, q, u, v, w)) (λ x. simp (p, q, u, v, w)))
+        go true true false true Passed p q u v w = inl (clear p q u v (rw w tt) (simp (p, q, u, v, w)) (λ x. simp (p, q, u, v, w)))
         go true true false true (Refused g) p q u v w =
             inr (record {
               ground = g;
