@@ -193,103 +193,18 @@ onward-relies drops u k l x = tt
 onward-relies gives-up u k l x = tt
 onward-relies commits u k l x = tt
 
--- Classes that exclude or contain one another.
-pub qw-not-a : (s : State) → QW s → IsA s → ⊥
-qw-not-a Q x y = y
-qw-not-a W x y = y
-qw-not-a P x y = y
-qw-not-a A x y = x
-qw-not-a C x y = y
-
-pub qwa-not-c : (s : State) → QWA s → IsC s → ⊥
-qwa-not-c Q x y = y
-qwa-not-c W x y = y
-qwa-not-c P x y = y
-qwa-not-c A x y = y
-qwa-not-c C x y = x
-
-pub pc-not-a : (s : State) → PC s → IsA s → ⊥
-pc-not-a Q x y = y
-pc-not-a W x y = y
-pc-not-a P x y = y
-pc-not-a A x y = x
-pc-not-a C x y = y
-
-pub pc-not-qw : (s : State) → PC s → QW s → ⊥
-pc-not-qw Q x y = x
-pc-not-qw W x y = x
-pc-not-qw P x y = y
-pc-not-qw A x y = y
-pc-not-qw C x y = y
-
-pub pc-not-wa : (s : State) → PC s → WA s → ⊥
-pc-not-wa Q x y = x
-pc-not-wa W x y = x
-pc-not-wa P x y = y
-pc-not-wa A x y = x
-pc-not-wa C x y = y
-
-pub q-in-qw : (s : State) → IsQ s → QW s
-q-in-qw Q x = tt
-q-in-qw W x = tt
-q-in-qw P x = x
-q-in-qw A x = x
-q-in-qw C x = x
-
-pub a-in-qwa : (s : State) → IsA s → QWA s
-a-in-qwa Q x = tt
-a-in-qwa W x = tt
-a-in-qwa P x = x
-a-in-qwa A x = tt
-a-in-qwa C x = x
-
-pub wa-in-qwa : (s : State) → WA s → QWA s
-wa-in-qwa Q x = tt
-wa-in-qwa W x = tt
-wa-in-qwa P x = x
-wa-in-qwa A x = tt
-wa-in-qwa C x = x
-
-pub c-in-pc : (s : State) → IsC s → PC s
-c-in-pc Q x = x
-c-in-pc W x = x
-c-in-pc P x = tt
-c-in-pc A x = x
-c-in-pc C x = tt
-
-pub rest-in-qwa : (s : State) → (PC s → ⊥) → QWA s
-rest-in-qwa Q x = tt
-rest-in-qwa W x = tt
-rest-in-qwa P x = x tt
-rest-in-qwa A x = tt
-rest-in-qwa C x = x tt
-
-pub w-in-qw : (s : State) → IsW s → QW s
-w-in-qw Q x = tt
-w-in-qw W x = tt
-w-in-qw P x = x
-w-in-qw A x = x
-w-in-qw C x = x
-
 -- The states that are never left.
 abbrev pub Final : State → Type 0
 Final s = byState ⊥ ⊥ ⊥ Unit Unit s
 
-pub a-final : (s : State) → IsA s → Final s
-a-final Q x = x
-a-final W x = x
-a-final P x = x
-a-final A x = x
-a-final C x = tt
-
-pub c-final : (s : State) → IsC s → Final s
-c-final Q x = x
-c-final W x = x
-c-final P x = x
-c-final A x = tt
-c-final C x = x
-
 -- A class of one state.
+pub is-q : (s : State) → IsQ s → s ≡ Q
+is-q Q x = refl
+is-q W x = absurd x
+is-q P x = absurd x
+is-q A x = absurd x
+is-q C x = absurd x
+
 pub is-w : (s : State) → IsW s → s ≡ W
 is-w Q x = absurd x
 is-w W x = refl
@@ -310,3 +225,69 @@ is-c W x = absurd x
 is-c P x = absurd x
 is-c A x = absurd x
 is-c C x = refl
+
+-- A class of one state is in every class that has it.
+pub q-in-qw : (s : State) → IsQ s → QW s
+q-in-qw s x = rw (is-q s x) tt
+
+pub w-in-qw : (s : State) → IsW s → QW s
+w-in-qw s x = rw (is-w s x) tt
+
+pub a-in-qwa : (s : State) → IsA s → QWA s
+a-in-qwa s x = rw (is-a s x) tt
+
+pub c-in-pc : (s : State) → IsC s → PC s
+c-in-pc s x = rw (is-c s x) tt
+
+pub a-final : (s : State) → IsA s → Final s
+a-final s x = rw (is-a s x) tt
+
+pub c-final : (s : State) → IsC s → Final s
+c-final s x = rw (is-c s x) tt
+
+-- A state is in one of PC and QWA, and never in both; nor in PC and in a part of QWA.
+pub rest-in-qwa : (s : State) → (PC s → ⊥) → QWA s
+rest-in-qwa Q x = tt
+rest-in-qwa W x = tt
+rest-in-qwa P x = x tt
+rest-in-qwa A x = tt
+rest-in-qwa C x = x tt
+
+pub pc-not-qwa : (s : State) → PC s → QWA s → ⊥
+pc-not-qwa Q x y = x
+pc-not-qwa W x y = x
+pc-not-qwa P x y = y
+pc-not-qwa A x y = x
+pc-not-qwa C x y = y
+
+qw-in-qwa : (s : State) → QW s → QWA s
+qw-in-qwa Q x = x
+qw-in-qwa W x = x
+qw-in-qwa P x = x
+qw-in-qwa A x = tt
+qw-in-qwa C x = x
+
+pub wa-in-qwa : (s : State) → WA s → QWA s
+wa-in-qwa Q x = tt
+wa-in-qwa W x = x
+wa-in-qwa P x = x
+wa-in-qwa A x = x
+wa-in-qwa C x = x
+
+pub pc-not-qw : (s : State) → PC s → QW s → ⊥
+pc-not-qw s x y = pc-not-qwa s x (qw-in-qwa s y)
+
+pub pc-not-wa : (s : State) → PC s → WA s → ⊥
+pc-not-wa s x y = pc-not-qwa s x (wa-in-qwa s y)
+
+pub pc-not-q : (s : State) → PC s → IsQ s → ⊥
+pc-not-q s x y = rw (is-q s y) at x
+
+pub pc-not-a : (s : State) → PC s → IsA s → ⊥
+pc-not-a s x y = rw (is-a s y) at x
+
+pub qw-not-a : (s : State) → QW s → IsA s → ⊥
+qw-not-a s x y = rw (is-a s y) at x
+
+pub qwa-not-c : (s : State) → QWA s → IsC s → ⊥
+qwa-not-c s x y = rw (is-c s y) at x

@@ -7,7 +7,7 @@ use native.Mathlib.Decide.{decLt}
 use native.Mathlib.Omega.{arith}
 use Rattle.site.specs.declared.State.{State}
 use Rattle.site.specs.declared.State.the-variants.{Q, W, P, A, C}
-use Rattle.promise.specs.Classes.{Kind, MoveP, MoveW, Ack, IsQ, PC, QWA, Order, Stands, Relies, First, Onward, stays, drops, gives-up, commits, pc-not-qw, pc-not-wa, q-in-qw, c-in-pc, rest-in-qwa}
+use Rattle.promise.specs.Classes.{Kind, MoveP, MoveW, Ack, IsQ, PC, QWA, Order, Stands, Relies, First, Onward, stays, drops, gives-up, commits, pc-not-qwa, pc-not-wa, pc-not-q, c-in-pc, rest-in-qwa}
 use Rattle.promise.specs.View.{View, seen, told, EP, EA, EC, Open, Lead, Mute, MayPrepare, MayAbort, MayCommit, nobody, Inv}
 use Rattle.promise.specs.Less.{Votes}
 use Rattle.promise.specs.Become.{Fits}
@@ -85,14 +85,7 @@ module _ (a : View) (j l : ℕ) (w : ℕ → Type 0) (v : Inv a) (r : a .runs j)
   relies-a : (t : State) (k : ℕ) → QWA (a .st j) → Relies t k (a .st j) (a .ld j) → Relies t k A l
   relies-a Q k q h = tt
   relies-a W k q h = (omega (arith, h .0), tt)
-  relies-a P k q h = absurd (apart (a .st j) q (h .1))
-    where
-      apart : (s : State) → QWA s → PC s → ⊥
-      apart Q x y = y
-      apart W x y = y
-      apart P x y = x
-      apart A x y = y
-      apart C x y = x
+  relies-a P k q h = absurd (pc-not-qwa (a .st j) (h .1) q)
   relies-a A k q h = tt
   relies-a C k q h = tt
 
@@ -203,7 +196,7 @@ module _ (a : View) (j l : ℕ) (w : ℕ → Type 0) (v : Inv a) (r : a .runs j)
   pub relies-q : (t : State) (k : ℕ) → IsQ (a .st j) → Relies t k (a .st j) (a .ld j) → Relies t k W l
   relies-q Q k q h = tt
   relies-q W k q h = (omega (arith, h .0), tt)
-  relies-q P k q h = absurd (pc-not-qw (a .st j) (h .1) (q-in-qw (a .st j) q))
+  relies-q P k q h = absurd (pc-not-q (a .st j) (h .1) q)
   relies-q A k q h = tt
   relies-q C k q h = tt
 

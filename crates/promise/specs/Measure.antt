@@ -9,7 +9,7 @@ use lib.Dec.{eqb}
 use borrow.Author.Tests.{eq-eqb, ne-eqb}
 use Rattle.site.specs.declared.State.{State}
 use Rattle.site.specs.declared.State.the-variants.{Q, W, P, A, C}
-use Rattle.promise.specs.Classes.{Kind, Start, Yes, No, MoveP, MoveW, Ack, Commit, Abort, IsQ, QW, Order, atOrder, PC, First, Leads}
+use Rattle.promise.specs.Classes.{Kind, Start, Yes, No, MoveP, MoveW, Ack, Commit, Abort, IsQ, QW, Order, atOrder, First, Leads, pc-not-q}
 use Rattle.promise.specs.View.{View, Lead, Inv}
 use Rattle.promise.specs.Does.{Uses, Does, begin-yes, begin-no, start-yes, start-no, give-up, prepare, move-p, stay-p, move-w, stay-w, commit, abort, over-q, over, end-a, end-c, noted, passed}
 use Rattle.promise.specs.Seen.{number}
@@ -144,14 +144,7 @@ module _ (a : View) (j : ℕ) (T : ℕ → Type 0) (v : Inv a) (j1 : 1 ≤ j) (n
   falls (give-up e w l t) = omega (arith, lead-after A l (λ f. f .1) (λ x. x), first-before W w (e, tt), all (t .above))
   falls (prepare e w l h t) = omega (arith, lead-after P l (λ f. f .1) (λ x. x), first-before W w (e, tt), all (t .above))
   falls (move-p {k} h1 h m w t) = omega (arith, follower P k (λ x. x) h (v .up MoveP k j tt m), one k (t .only))
-  falls (stay-p {s} {k} h1 h m e p t) = omega (arith, follower s k (not-q s p) h (v .up MoveP k j tt m), one k (t .only))
-    where
-      not-q : (s : State) → PC s → IsQ s → ⊥
-      not-q Q x y = x
-      not-q W x y = x
-      not-q P x y = y
-      not-q A x y = x
-      not-q C x y = y
+  falls (stay-p {s} {k} h1 h m e p t) = omega (arith, follower s k (pc-not-q s p) h (v .up MoveP k j tt m), one k (t .only))
   falls (move-w {k} h1 h m q t) = omega (arith, follower W k (λ x. x) h (v .up MoveW k j tt m), one k (t .only))
   falls (stay-w {k} h1 h m e t) = omega (arith, follower A k (λ x. x) h (v .up MoveW k j tt m), one k (t .only))
   falls (commit {k} h1 h m z) = omega (arith, follower C k (λ x. x) h (v .up Commit k j tt m), none z)
