@@ -98,6 +98,14 @@ Stands κ s = byKind Unit Unit Unit (PC s) (WA s) Unit (IsC s) (IsA s) κ
 abbrev pub Relies : State → ℕ → State → ℕ → Type 0
 Relies t k s l = byState Unit ((k ≤ l) × WA s) ((k ≤ l) × PC s) Unit Unit t
 
+-- Only a leader in w or p relies on others.
+pub relies-if : (t : State) (k : ℕ) (s : State) (l : ℕ) → (t ≡ W → (k ≤ l) × WA s) → (t ≡ P → (k ≤ l) × PC s) → Relies t k s l
+relies-if Q k s l f g = tt
+relies-if W k s l f g = f refl
+relies-if P k s l f g = g refl
+relies-if A k s l f g = tt
+relies-if C k s l f g = tt
+
 -- Both classes of orders are orders; no order goes with a vote, and a Yes does.
 pub prepares-order : (κ : Kind) → Prepares κ → Order κ
 prepares-order Start x = x

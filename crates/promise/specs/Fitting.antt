@@ -7,7 +7,7 @@ use native.Mathlib.Decide.{decLt}
 use native.Mathlib.Omega.{arith}
 use Rattle.site.specs.declared.State.{State}
 use Rattle.site.specs.declared.State.the-variants.{Q, W, P, A, C}
-use Rattle.promise.specs.Classes.{Kind, MoveP, MoveW, Ack, IsQ, PC, QWA, Order, Stands, Relies, First, Onward, stays, drops, gives-up, commits, pc-not-qwa, pc-not-wa, pc-not-q, c-in-pc, rest-in-qwa}
+use Rattle.promise.specs.Classes.{Kind, MoveP, MoveW, Ack, IsQ, WA, PC, QWA, Order, Stands, Relies, First, Onward, stays, drops, gives-up, commits, relies-if, pc-not-qwa, pc-not-wa, pc-not-q, c-in-pc, rest-in-qwa}
 use Rattle.promise.specs.View.{View, seen, told, EP, EA, EC, Open, Lead, Mute, MayPrepare, MayAbort, MayCommit, nobody, Inv}
 use Rattle.promise.specs.Less.{Votes}
 use Rattle.promise.specs.Become.{Fits}
@@ -43,15 +43,19 @@ unprepared a j h b =
       barred = b;
     }
 
+-- Site j comes to follow l, and to be in state s: who could rely on it still can, where s is in the class that counts for the one who relies.
+still-relies : (a : View) (j l : ℕ) → a .ld j ≤ l → (s : State) (k : ℕ) → (a .st k ≡ W → k ≤ a .ld j → WA (a .st j) → WA s) → (a .st k ≡ P → k ≤ a .ld j → PC (a .st j) → PC s)
+    → Relies (a .st k) k (a .st j) (a .ld j) → Relies (a .st k) k s l
+still-relies a j l rise s k f g h =
+    relies-if (a .st k) k s l
+    (λ e. let x : (k ≤ a .ld j) × WA (a .st j) = relied e in (omega (arith, x .0), f e (x .0) (x .1)))
+    (λ e. let x : (k ≤ a .ld j) × PC (a .st j) = relied e in (omega (arith, x .0), g e (x .0) (x .1)))
+  where
+    relied : {t : State} → a .st k ≡ t → Relies t k (a .st j) (a .ld j)
+    relied e = subst (λ (t : State). Relies t k (a .st j) (a .ld j)) e h
+
 -- Site j runs and changes to a state of some class, following l.
 module _ (a : View) (j l : ℕ) (w : ℕ → Type 0) (v : Inv a) (r : a .runs j) (g : Votes a j w) (rise : a .ld j ≤ l) (own : l ≤ j) where
-  same-relies : (t : State) (k : ℕ) → Relies t k (a .st j) (a .ld j) → Relies t k (a .st j) l
-  same-relies Q k h = tt
-  same-relies W k h = (omega (arith, h .0), h .1)
-  same-relies P k h = (omega (arith, h .0), h .1)
-  same-relies A k h = tt
-  same-relies C k h = tt
-
   -- the state stays
   pub fits-same : (w j → a .voted j) → Fits a j (a .st j) l w
   fits-same quiet =
@@ -65,7 +69,7 @@ module _ (a : View) (j l : ℕ) (w : ℕ → Type 0) (v : Inv a) (r : a .runs j)
         first = λ f. f;
         waiting = λ f q. g .old j (v .waiting j (r, f) q);
         lead = λ _. stays;
-        relied = λ k _ _ _. same-relies (a .st k) k;
+        relied = λ k _ _ _. still-relies a j l rise (a .st j) k (λ _ _ x. x) (λ _ _ x. x);
         prepared = λ p. ease-prepare a j (v .prepared (seen j p));
         aborted = λ e. ease-abort a j (v .aborted (seen j e));
         silent = λ _. quiet;
@@ -82,13 +86,6 @@ module _ (a : View) (j l : ℕ) (w : ℕ → Type 0) (v : Inv a) (r : a .runs j)
   onward-a A x = stays
   onward-a C x = absurd x
 
-  relies-a : (t : State) (k : ℕ) → QWA (a .st j) → Relies t k (a .st j) (a .ld j) → Relies t k A l
-  relies-a Q k q h = tt
-  relies-a W k q h = (omega (arith, h .0), tt)
-  relies-a P k q h = absurd (pc-not-qwa (a .st j) (h .1) q)
-  relies-a A k q h = tt
-  relies-a C k q h = tt
-
   pub fits-a : QWA (a .st j) → MayAbort a (λ i. i ≡ j) → (w j → a .voted j) → Fits a j A l w
   fits-a q o quiet =
       record {
@@ -101,7 +98,7 @@ module _ (a : View) (j l : ℕ) (w : ℕ → Type 0) (v : Inv a) (r : a .runs j)
         first = λ f. absurd (f .1);
         waiting = λ f. absurd (f .1);
         lead = λ _. onward-a (a .st j) q;
-        relied = λ k _ _ _. relies-a (a .st k) k q;
+        relied = λ k _ _ _. still-relies a j l rise A k (λ _ _ _. tt) (λ _ _ x. absurd (pc-not-qwa (a .st j) x q));
         prepared = λ e. absurd e;
         aborted = λ _. o;
         silent = λ _. quiet;
@@ -118,13 +115,6 @@ module _ (a : View) (j l : ℕ) (w : ℕ → Type 0) (v : Inv a) (r : a .runs j)
   onward-c A x = absurd x
   onward-c C x = stays
 
-  relies-c : (t : State) (k : ℕ) → PC (a .st j) → Relies t k (a .st j) (a .ld j) → Relies t k C l
-  relies-c Q k q h = tt
-  relies-c W k q h = absurd (pc-not-wa (a .st j) q (h .1))
-  relies-c P k q h = (omega (arith, h .0), tt)
-  relies-c A k q h = tt
-  relies-c C k q h = tt
-
   pub fits-c : PC (a .st j) → MayCommit a → Fits a j C l w
   fits-c q o =
       record {
@@ -137,7 +127,7 @@ module _ (a : View) (j l : ℕ) (w : ℕ → Type 0) (v : Inv a) (r : a .runs j)
         first = λ f. absurd (f .1);
         waiting = λ f. absurd (f .1);
         lead = λ _. onward-c (a .st j) q;
-        relied = λ k _ _ _. relies-c (a .st k) k q;
+        relied = λ k _ _ _. still-relies a j l rise C k (λ _ _ x. absurd (pc-not-wa (a .st j) q x)) (λ _ _ _. tt);
         prepared = λ _. ease-prepare a j (v .prepared (seen j q));
         aborted = λ e. absurd e;
         silent = λ e. absurd e;
@@ -193,12 +183,8 @@ module _ (a : View) (j l : ℕ) (w : ℕ → Type 0) (v : Inv a) (r : a .runs j)
       }
 
   -- in q a site acknowledged nobody that waits for p
-  pub relies-q : (t : State) (k : ℕ) → IsQ (a .st j) → Relies t k (a .st j) (a .ld j) → Relies t k W l
-  relies-q Q k q h = tt
-  relies-q W k q h = (omega (arith, h .0), tt)
-  relies-q P k q h = absurd (pc-not-q (a .st j) (h .1) q)
-  relies-q A k q h = tt
-  relies-q C k q h = tt
+  pub relies-q : (k : ℕ) → IsQ (a .st j) → Relies (a .st k) k (a .st j) (a .ld j) → Relies (a .st k) k W l
+  relies-q k q = still-relies a j l rise W k (λ _ _ _. tt) (λ _ _ x. absurd (pc-not-q (a .st j) x q))
 
 -- An order of k that j obeys: a running site i that j follows, or that is below it, is k, and stands as the order says.
 module _ (a : View) (k j : ℕ) (v : Inv a) (rise : a .ld j ≤ k) where
@@ -212,16 +198,8 @@ module _ (a : View) (k j : ℕ) (v : Inv a) (rise : a .ld j ≤ k) where
           e : k ≡ i
           e = omega arith
 
-  pub obey-p : a .live MoveP k j → (t : State) (i : ℕ) → a .st i ≡ t → a .runs i → Relies t i (a .st j) (a .ld j) → Relies t i P k
-  obey-p m Q i e x h = tt
-  obey-p m W i e x h = absurd (rw e at (obeyed MoveP tt m i (h .0) x))
-  obey-p m P i e x h = (omega (arith, h .0), tt)
-  obey-p m A i e x h = tt
-  obey-p m C i e x h = tt
+  pub obey-p : a .live MoveP k j → (i : ℕ) → a .runs i → Relies (a .st i) i (a .st j) (a .ld j) → Relies (a .st i) i P k
+  obey-p m i x = still-relies a j k rise P i (λ e h _. absurd (rw e at (obeyed MoveP tt m i h x))) (λ _ _ _. tt)
 
-  pub obey-w : a .live MoveW k j → (t : State) (i : ℕ) → a .st i ≡ t → a .runs i → Relies t i (a .st j) (a .ld j) → Relies t i W k
-  obey-w m Q i e x h = tt
-  obey-w m W i e x h = (omega (arith, h .0), tt)
-  obey-w m P i e x h = absurd (rw e at (obeyed MoveW tt m i (h .0) x))
-  obey-w m A i e x h = tt
-  obey-w m C i e x h = tt
+  pub obey-w : a .live MoveW k j → (i : ℕ) → a .runs i → Relies (a .st i) i (a .st j) (a .ld j) → Relies (a .st i) i W k
+  obey-w m i x = still-relies a j k rise W i (λ _ _ _. tt) (λ e h _. absurd (rw e at (obeyed MoveW tt m i h x)))

@@ -7,7 +7,7 @@ use native.Mathlib.Decide.{ℕ-discrete, decLt}
 use native.Mathlib.Omega.{arith}
 use Rattle.site.specs.declared.State.{State}
 use Rattle.site.specs.declared.State.the-variants.{Q, W, P, A, C}
-use Rattle.promise.specs.Classes.{Kind, Start, Yes, No, MoveP, MoveW, Ack, Commit, Abort, byState, IsQ, WA, PC, QWA, Order, Prepares, Yields, atOrder, Stands, Relies, First, IsYes, IsAck, Gives, order-gives, yes-gives, wa-in-qwa, Final}
+use Rattle.promise.specs.Classes.{Kind, Start, Yes, No, MoveP, MoveW, Ack, Commit, Abort, byState, IsQ, WA, PC, QWA, Order, Prepares, Yields, atOrder, Stands, Relies, First, IsYes, IsAck, Gives, relies-if, order-gives, yes-gives, wa-in-qwa, Final}
 use Rattle.promise.specs.View.{View, seen, told, EA, EC, Lead, Lowest, MayPrepare, MayAbort, MayCommit, nobody, Inv}
 use Rattle.promise.specs.Less.{Votes, stop, stop-inv, stop-prepare, stop-abort, stop-commit}
 use Rattle.promise.specs.Become.{upd-same, upd-other, become, Fits, become-inv}
@@ -174,34 +174,19 @@ module _ (a : View) (j : ℕ) (v : Inv a) (r : a .runs j) where
   readied (passed i z) o = absurd o
 
   -- who is acknowledged leads, and can rely on j afterwards
-  relies-pc : (t : State) (k : ℕ) (s : State) → PC t → PC s → Relies t k s k
-  relies-pc Q k s x y = tt
-  relies-pc W k s x y = absurd x
-  relies-pc P k s x y = (omega arith, y)
-  relies-pc A k s x y = tt
-  relies-pc C k s x y = tt
-
-  relies-wa : (t : State) (k : ℕ) (s : State) → WA t → WA s → Relies t k s k
-  relies-wa Q k s x y = tt
-  relies-wa W k s x y = (omega arith, y)
-  relies-wa P k s x y = absurd x
-  relies-wa A k s x y = tt
-  relies-wa C k s x y = tt
-
   pub record Answered (i : ℕ) (s : State) (l : ℕ) : Type 0 where
     pub above : i < j
     pub leads : a .runs i → Lead a i
     pub relies : a .runs i → Relies (a .st i) i s l
 
-  by-p : (k : ℕ) (s : State) {T : ℕ → Type 0} → a .live MoveP k j → PC s → Only k T → (i : ℕ) → T i → Answered i s k
-  by-p k s m p t i x =
+  by-move : (κ : Kind) → Order κ → (k : ℕ) (s : State) {T : ℕ → Type 0} → a .live κ k j → (Stands κ W → WA s) → (Stands κ P → PC s) → Only k T → (i : ℕ) → T i → Answered i s k
+  by-move κ o k s m f g t i x =
       subst (λ (i : ℕ). Answered i s k) (sym (t .only i x))
-      (record { above = v .up MoveP k j tt m; leads = λ y. v .orders MoveP k j tt m y .0; relies = λ y. relies-pc (a .st k) k s (v .orders MoveP k j tt m y .1) p })
-
-  by-w : (k : ℕ) (s : State) {T : ℕ → Type 0} → a .live MoveW k j → WA s → Only k T → (i : ℕ) → T i → Answered i s k
-  by-w k s m p t i x =
-      subst (λ (i : ℕ). Answered i s k) (sym (t .only i x))
-      (record { above = v .up MoveW k j tt m; leads = λ y. v .orders MoveW k j tt m y .0; relies = λ y. relies-wa (a .st k) k s (v .orders MoveW k j tt m y .1) p })
+      (record {
+        above = v .up κ k j o m;
+        leads = λ y. v .orders κ k j o m y .0;
+        relies = λ y. let h = v .orders κ k j o m y .1 in relies-if (a .st k) k s k (λ e. (omega arith, f (subst (Stands κ) e h))) (λ e. (omega arith, g (subst (Stands κ) e h)));
+      })
 
   pub answered : {s : State} {l : ℕ} {κ : Kind} {y : Uses} {T : ℕ → Type 0} → Does a j T s l κ y → IsAck κ → (i : ℕ) → T i → Answered i s l
   answered (begin-yes e q l t) o i x = absurd o
@@ -210,10 +195,10 @@ module _ (a : View) (j : ℕ) (v : Inv a) (r : a .runs j) where
   answered (start-no h ne q m t) o i x = absurd o
   answered (give-up e w l t) o i x = absurd o
   answered (prepare e w l h t) o i x = absurd o
-  answered (move-p h1 h m w t) o i x = by-p _ P m tt t i x
-  answered (stay-p h1 h m e p t) o i x = by-p _ _ m p t i x
-  answered (move-w h1 h m q t) o i x = by-w _ W m tt t i x
-  answered (stay-w h1 h m e t) o i x = by-w _ A m tt t i x
+  answered (move-p h1 h m w t) o i x = by-move MoveP tt _ P m (λ y. y) (λ _. tt) t i x
+  answered (stay-p h1 h m e p t) o i x = by-move MoveP tt _ _ m (λ y. absurd y) (λ _. p) t i x
+  answered (move-w h1 h m q t) o i x = by-move MoveW tt _ W m (λ _. tt) (λ y. y) t i x
+  answered (stay-w h1 h m e t) o i x = by-move MoveW tt _ A m (λ _. tt) (λ y. y) t i x
   answered (commit h1 h m z) o i x = absurd (z i x)
   answered (abort h1 h m z) o i x = absurd (z i x)
   answered (over-q h1 h n q t) o i x = absurd o
@@ -241,12 +226,12 @@ module _ (a : View) (j : ℕ) (v : Inv a) (r : a .runs j) where
     pub fits : {s : State} {l : ℕ} {κ : Kind} {y : Uses} {T : ℕ → Type 0} → Does a j T s l κ y → (Gives κ → w j) → ((Gives κ → ⊥) → w j → a .voted j) → Fits a j s l w
     fits (begin-yes e q l t) y n =
         fits-w a j (a .ld j) w v r g (omega arith) (v .low j) (λ f. (f .0, rw q tt)) (λ _. y tt) (λ h. h .1 (e, rw q tt)) (λ x. rw q at (v .committed x .each j r))
-        (λ k _ _ _. relies-q a j (a .ld j) w v r g (omega arith) (v .low j) (a .st k) k (rw q tt))
+        (λ k _ _ _. relies-q a j (a .ld j) w v r g (omega arith) (v .low j) k (rw q tt))
     fits (begin-no e q l t) y n = fits-a a j (a .ld j) w v r g (omega arith) (v .low j) (rw q tt) (by-q a j v r (rw q tt)) (n (λ x. x))
     fits (start-yes h ne q m t) y n =
         fits-w a j (a .ld j) w v r g (omega arith) (v .low j) (λ f. absurd (ne (f .0))) (λ f. absurd (ne (f .0)))
         (λ x. let c : a .ld j ≡ j = x .0 in let d : 1 ≤ j = v .site j r in ne (omega arith)) (λ x. rw q at (v .committed x .each j r))
-        (λ k _ _ _. relies-q a j (a .ld j) w v r g (omega arith) (v .low j) (a .st k) k (rw q tt))
+        (λ k _ _ _. relies-q a j (a .ld j) w v r g (omega arith) (v .low j) k (rw q tt))
     fits (start-no h ne q m t) y n = fits-a a j (a .ld j) w v r g (omega arith) (v .low j) (rw q tt) (by-q a j v r (rw q tt)) (n (λ x. x))
     fits (give-up e q l t) y n = fits-a a j (a .ld j) w v r g (omega arith) (v .low j) (rw q tt) (by-open a j v r (e, rw q tt)) (n (λ x. x))
     fits (prepare e q l h t) y n =
@@ -255,13 +240,13 @@ module _ (a : View) (j : ℕ) (v : Inv a) (r : a .runs j) where
     fits (move-p {k} h1 h m q t) y n =
         fits-p a j k w v r g h (omega (arith, v .up MoveP k j tt m)) (λ x. let c : k < j = v .up MoveP k j tt m in let d : a .ld j ≡ j = x .0 in omega arith)
         (ease-prepare a j (v .prepared (told MoveP k j tt m))) (λ e. let c : k < a .ld j = v .aborted e .deaf k j m r in omega arith)
-        (λ i _ x _. obey-p a k j v h m (a .st i) i refl x)
+        (λ i _ x _. obey-p a k j v h m i x)
     fits (stay-p {s} {k} h1 h m e p t) y n = following k h (omega (arith, v .up MoveP k j tt m)) (n (λ x. x)) e
     fits (move-w {k} h1 h m q t) y n =
         fits-w a j k w v r g h (omega (arith, v .up MoveW k j tt m)) (λ f. absurd (above1 (f .0))) (λ f. absurd (above1 (f .0)))
         (λ x. let c : k < j = v .up MoveW k j tt m in let d : a .ld j ≡ j = x .0 in omega arith)
         (λ e. let c : k < a .ld j = v .committed e .deaf k j m r in omega arith)
-        (λ i _ x _. obey-w a k j v h m (a .st i) i refl x)
+        (λ i _ x _. obey-w a k j v h m i x)
       where
         above1 : j ≡ 1 → ⊥
         above1 e = let c : k < j = v .up MoveW k j tt m in omega arith
