@@ -7,7 +7,7 @@ use native.Mathlib.Decide.{ℕ-discrete}
 use native.Mathlib.Omega.{arith}
 use Rattle.site.specs.declared.State.{State}
 use Rattle.promise.specs.Classes.{Kind, MoveP, MoveW, Ack, IsQ, IsW, IsA, IsC, PC, QW, QWA, Prepares, IsCommit, IsAbort, Stands, Relies, First, Leads, Onward, onward-stands, onward-first, onward-relies, qw-not-a, qwa-not-c, pc-not-a, pc-not-qw, q-in-qw, a-in-qwa, c-in-pc}
-use Rattle.promise.specs.View.{View, Evidence, seen, told, EP, EA, EC, Open, Lead, Mute, MayPrepare, MayAbort, MayCommit, nobody, Inv}
+use Rattle.promise.specs.View.{View, Evidence, seen, told, EP, EA, EC, Open, Lead, Mute, MayPrepare, MayAbort, MayCommit, Safe, nobody, Inv}
 use Rattle.promise.specs.Less.{Votes}
 
 pick : {T : Type 0} {i j : ℕ} → Dec (i ≡ j) → T → T → T
@@ -64,13 +64,9 @@ pub record Fits (a : View) (j : ℕ) (s : State) (l : ℕ) (w : ℕ → Type 0) 
   pub lead : Lead a j → Onward (a .st j) s
   -- a leader that j acknowledged can still rely on it
   pub relied : (k : ℕ) → k ≢ j → a .runs k → a .live Ack j k → Relies (a .st k) k (a .st j) (a .ld j) → Relies (a .st k) k s l
-  -- s is safe beside the evidence there is, and as evidence itself
-  pub prepared : PC s → MayPrepare a (λ i. i ≡ j)
-  pub aborted : IsA s → MayAbort a (λ i. i ≡ j)
+  -- s is safe; where it is a, j gives no vote
+  pub safe : Safe a s (λ i. i ≡ j)
   pub silent : IsA s → w j → a .voted j
-  pub committed : IsC s → MayCommit a
-  pub beside-a : EA a → QWA s
-  pub beside-c : EC a → PC s
 
 module _ (a : View) (j : ℕ) (s : State) (l : ℕ) (w : ℕ → Type 0) (v : Inv a) (f : Fits a j s l w) where
   abbrev b : View
@@ -106,8 +102,8 @@ module _ (a : View) (j : ℕ) (s : State) (l : ℕ) (w : ℕ → Type 0) (v : In
   prepare (inl e) = record { all = λ i. f .votes .old i (v .prepared e .all i); shut = λ i o. v .prepared e .shut i (was-open i o) }
   prepare (inr p) =
       record {
-        all = λ i. f .votes .old i (f .prepared p .all i);
-        shut = λ i o. pc-not-qw s p (open-j i o (f .prepared p .shut i (was-open i o)));
+        all = λ i. f .votes .old i (f .safe .prepared p .all i);
+        shut = λ i o. pc-not-qw s p (open-j i o (f .safe .prepared p .shut i (was-open i o)));
       }
 
   keep-a : (exempt : ℕ → Type 0) → ((i : ℕ) → exempt i → (i ≡ j) × (IsQ s → ⊥) × (w j → a .voted j)) → ((i : ℕ) → exempt i → QW s → ⊥)
@@ -131,14 +127,14 @@ module _ (a : View) (j : ℕ) (s : State) (l : ℕ) (w : ℕ → Type 0) (v : In
       }
 
   abort : EA a ⊎ IsA s → MayAbort b nobody
-  abort (inl e) = keep-a nobody (λ i x. absurd x) (λ i x. absurd x) (v .aborted e) (f .beside-a e) (λ c. ⊎-elim (v .aborted e .apart) (qwa-not-c s (f .beside-a e)) (new IsC IsCommit c))
+  abort (inl e) = keep-a nobody (λ i x. absurd x) (λ i x. absurd x) (v .aborted e) (f .safe .beside-a e) (λ c. ⊎-elim (v .aborted e .apart) (qwa-not-c s (f .safe .beside-a e)) (new IsC IsCommit c))
   abort (inr e) =
-      keep-a (λ i. i ≡ j) (λ i y. (y, λ q. qw-not-a s (q-in-qw s q) e, f .silent e)) (λ i _ q. qw-not-a s q e) (f .aborted e) (a-in-qwa s e)
-      (λ c. ⊎-elim (f .aborted e .apart) (qwa-not-c s (a-in-qwa s e)) (new IsC IsCommit c))
+      keep-a (λ i. i ≡ j) (λ i y. (y, λ q. qw-not-a s (q-in-qw s q) e, f .silent e)) (λ i _ q. qw-not-a s q e) (f .safe .aborted e) (a-in-qwa s e)
+      (λ c. ⊎-elim (f .safe .aborted e .apart) (qwa-not-c s (a-in-qwa s e)) (new IsC IsCommit c))
 
   commit : EC a ⊎ IsC s → MayCommit b
-  commit (inl e) = keep-c (v .committed e) (f .beside-c e) (λ c. ⊎-elim (v .committed e .apart) (pc-not-a s (f .beside-c e)) (new IsA IsAbort c))
-  commit (inr e) = keep-c (f .committed e) (c-in-pc s e) (λ c. ⊎-elim (f .committed e .apart) (pc-not-a s (c-in-pc s e)) (new IsA IsAbort c))
+  commit (inl e) = keep-c (v .committed e) (f .safe .beside-c e) (λ c. ⊎-elim (v .committed e .apart) (pc-not-a s (f .safe .beside-c e)) (new IsA IsAbort c))
+  commit (inr e) = keep-c (f .safe .committed e) (c-in-pc s e) (λ c. ⊎-elim (f .safe .committed e .apart) (pc-not-a s (c-in-pc s e)) (new IsA IsAbort c))
 
   own-leader : Lead a j → l ≡ j
   own-leader h = let e : a .ld j ≡ j = h .0 in let u : a .ld j ≤ l = f .rise in let d : l ≤ j = f .own in omega arith

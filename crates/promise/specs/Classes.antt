@@ -56,13 +56,6 @@ byKind s y n p w k c a Abort = a
 abbrev pub Order : Kind → Type 0
 Order κ = byKind ⊥ ⊥ ⊥ Unit Unit ⊥ Unit Unit κ
 
--- Orders that only a prepared site writes, and those that none does.
-abbrev pub Prepares : Kind → Type 0
-Prepares κ = byKind ⊥ ⊥ ⊥ Unit ⊥ ⊥ Unit ⊥ κ
-
-abbrev pub Yields : Kind → Type 0
-Yields κ = byKind ⊥ ⊥ ⊥ ⊥ Unit ⊥ ⊥ Unit κ
-
 abbrev pub IsYes : Kind → Type 0
 IsYes κ = byKind ⊥ Unit ⊥ ⊥ ⊥ ⊥ ⊥ ⊥ κ
 
@@ -89,6 +82,13 @@ atOrder MoveW = W
 atOrder Ack = Q
 atOrder Commit = C
 atOrder Abort = A
+
+-- Orders that only a prepared site writes, and those that none does.
+abbrev pub Prepares : Kind → Type 0
+Prepares κ = PC (atOrder κ)
+
+abbrev pub Yields : Kind → Type 0
+Yields κ = WA (atOrder κ)
 
 -- The states in which a running site may be whose order of a kind is outstanding.
 abbrev pub Stands : Kind → State → Type 0

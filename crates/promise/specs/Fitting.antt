@@ -8,7 +8,7 @@ use native.Mathlib.Omega.{arith}
 use Rattle.site.specs.declared.State.{State}
 use Rattle.site.specs.declared.State.the-variants.{Q, W, P, A, C}
 use Rattle.promise.specs.Classes.{Kind, MoveP, MoveW, Ack, IsQ, WA, PC, QWA, Order, Stands, Relies, First, Onward, stays, drops, gives-up, commits, relies-if, pc-not-qwa, pc-not-wa, pc-not-q, c-in-pc, rest-in-qwa}
-use Rattle.promise.specs.View.{View, seen, told, EP, EA, EC, Open, Lead, Mute, MayPrepare, MayAbort, MayCommit, nobody, Inv}
+use Rattle.promise.specs.View.{View, seen, told, EP, EA, EC, Open, Lead, Mute, MayPrepare, MayAbort, MayCommit, Safe, nobody, Inv}
 use Rattle.promise.specs.Less.{Votes}
 use Rattle.promise.specs.Become.{Fits}
 
@@ -28,6 +28,34 @@ module _ (a : View) (j : ℕ) where
         apart = p .apart;
         barred = λ i o. ⊎-elim (λ e. absurd e) (λ u. inr (record { site = u .site; silent = u .silent; past = λ r q. absurd (u .past r q) })) (p .barred i o);
       }
+
+  pub ease : {s : State} → Safe a s nobody → Safe a s self
+  ease h = record { prepared = λ p. ease-prepare (h .prepared p); aborted = λ p. ease-abort (h .aborted p); committed = h .committed; beside-a = h .beside-a; beside-c = h .beside-c }
+
+  -- the state of a running site is safe
+  pub standing : Inv a → a .runs j → Safe a (a .st j) nobody
+  standing v r =
+      record {
+        prepared = λ p. v .prepared (seen j p);
+        aborted = λ p. v .aborted (seen j p);
+        committed = λ p. v .committed (seen j p);
+        beside-a = λ e. v .aborted e .none j r;
+        beside-c = λ e. v .committed e .each j r;
+      }
+
+-- When each state but q is safe.
+module _ (a : View) {x : ℕ → Type 0} where
+  pub safe-w : (EC a → ⊥) → Safe a W x
+  safe-w n = record { prepared = λ e. absurd e; aborted = λ e. absurd e; committed = λ e. absurd e; beside-a = λ _. tt; beside-c = n }
+
+  pub safe-p : MayPrepare a x → (EA a → ⊥) → Safe a P x
+  safe-p p n = record { prepared = λ _. p; aborted = λ e. absurd e; committed = λ e. absurd e; beside-a = n; beside-c = λ _. tt }
+
+  pub safe-a : MayAbort a x → Safe a A x
+  safe-a o = record { prepared = λ e. absurd e; aborted = λ _. o; committed = λ e. absurd e; beside-a = λ _. tt; beside-c = o .apart }
+
+  pub safe-c : MayPrepare a x → MayCommit a → Safe a C x
+  safe-c p o = record { prepared = λ _. p; aborted = λ e. absurd e; committed = λ _. o; beside-a = o .apart; beside-c = λ _. tt }
 
 pub c-is-p : (a : View) → EC a → EP a
 c-is-p a (seen i x) = seen i (c-in-pc (a .st i) x)
@@ -57,8 +85,8 @@ still-relies a j l rise s k f g h =
 -- Site j runs and changes to a state of some class, following l.
 module _ (a : View) (j l : ℕ) (w : ℕ → Type 0) (v : Inv a) (r : a .runs j) (g : Votes a j w) (rise : a .ld j ≤ l) (own : l ≤ j) where
   -- the state stays
-  pub fits-same : (w j → a .voted j) → Fits a j (a .st j) l w
-  fits-same quiet =
+  pub fits-same : (w j → a .voted j) → Safe a (a .st j) (λ i. i ≡ j) → Fits a j (a .st j) l w
+  fits-same quiet o =
       record {
         run = r;
         votes = g;
@@ -70,12 +98,8 @@ module _ (a : View) (j l : ℕ) (w : ℕ → Type 0) (v : Inv a) (r : a .runs j)
         waiting = λ f q. g .old j (v .waiting j (r, f) q);
         lead = λ _. stays;
         relied = λ k _ _ _. still-relies a j l rise (a .st j) k (λ _ _ x. x) (λ _ _ x. x);
-        prepared = λ p. ease-prepare a j (v .prepared (seen j p));
-        aborted = λ e. ease-abort a j (v .aborted (seen j e));
+        safe = o;
         silent = λ _. quiet;
-        committed = λ c. v .committed (seen j c);
-        beside-a = λ e. v .aborted e .none j r;
-        beside-c = λ e. v .committed e .each j r;
       }
 
   -- to a
@@ -86,8 +110,8 @@ module _ (a : View) (j l : ℕ) (w : ℕ → Type 0) (v : Inv a) (r : a .runs j)
   onward-a A x = stays
   onward-a C x = absurd x
 
-  pub fits-a : QWA (a .st j) → MayAbort a (λ i. i ≡ j) → (w j → a .voted j) → Fits a j A l w
-  fits-a q o quiet =
+  pub fits-a : QWA (a .st j) → (w j → a .voted j) → Safe a A (λ i. i ≡ j) → Fits a j A l w
+  fits-a q quiet o =
       record {
         run = r;
         votes = g;
@@ -99,12 +123,8 @@ module _ (a : View) (j l : ℕ) (w : ℕ → Type 0) (v : Inv a) (r : a .runs j)
         waiting = λ f. absurd (f .1);
         lead = λ _. onward-a (a .st j) q;
         relied = λ k _ _ _. still-relies a j l rise A k (λ _ _ _. tt) (λ _ _ x. absurd (pc-not-qwa (a .st j) x q));
-        prepared = λ e. absurd e;
-        aborted = λ _. o;
+        safe = o;
         silent = λ _. quiet;
-        committed = λ e. absurd e;
-        beside-a = λ _. tt;
-        beside-c = λ e. o .apart e;
       }
 
   -- to c
@@ -115,7 +135,7 @@ module _ (a : View) (j l : ℕ) (w : ℕ → Type 0) (v : Inv a) (r : a .runs j)
   onward-c A x = absurd x
   onward-c C x = stays
 
-  pub fits-c : PC (a .st j) → MayCommit a → Fits a j C l w
+  pub fits-c : PC (a .st j) → Safe a C (λ i. i ≡ j) → Fits a j C l w
   fits-c q o =
       record {
         run = r;
@@ -128,18 +148,14 @@ module _ (a : View) (j l : ℕ) (w : ℕ → Type 0) (v : Inv a) (r : a .runs j)
         waiting = λ f. absurd (f .1);
         lead = λ _. onward-c (a .st j) q;
         relied = λ k _ _ _. still-relies a j l rise C k (λ _ _ x. absurd (pc-not-wa (a .st j) q x)) (λ _ _ _. tt);
-        prepared = λ _. ease-prepare a j (v .prepared (seen j q));
-        aborted = λ e. absurd e;
+        safe = o;
         silent = λ e. absurd e;
-        committed = λ _. o;
-        beside-a = λ e. absurd (o .apart e);
-        beside-c = λ _. tt;
       }
 
   -- to w, at a site that does not lead
-  pub fits-w : (First j W → First j (a .st j)) → (First j W → w j) → (Lead a j → ⊥) → (EC a → ⊥)
-      → ((k : ℕ) → k ≢ j → a .runs k → a .live Ack j k → Relies (a .st k) k (a .st j) (a .ld j) → Relies (a .st k) k W l) → Fits a j W l w
-  fits-w first waiting idle nc relied =
+  pub fits-w : (First j W → First j (a .st j)) → (First j W → w j) → (Lead a j → ⊥)
+      → ((k : ℕ) → k ≢ j → a .runs k → a .live Ack j k → Relies (a .st k) k (a .st j) (a .ld j) → Relies (a .st k) k W l) → Safe a W (λ i. i ≡ j) → Fits a j W l w
+  fits-w first waiting idle relied o =
       record {
         run = r;
         votes = g;
@@ -151,18 +167,14 @@ module _ (a : View) (j l : ℕ) (w : ℕ → Type 0) (v : Inv a) (r : a .runs j)
         waiting = λ f _. waiting f;
         lead = λ h. absurd (idle h);
         relied = relied;
-        prepared = λ e. absurd e;
-        aborted = λ e. absurd e;
+        safe = o;
         silent = λ e. absurd e;
-        committed = λ e. absurd e;
-        beside-a = λ _. tt;
-        beside-c = λ e. absurd (nc e);
       }
 
   -- to p, at a site that does not lead
-  pub fits-p : (Lead a j → ⊥) → MayPrepare a (λ i. i ≡ j) → (EA a → ⊥)
-      → ((k : ℕ) → k ≢ j → a .runs k → a .live Ack j k → Relies (a .st k) k (a .st j) (a .ld j) → Relies (a .st k) k P l) → Fits a j P l w
-  fits-p idle p na relied =
+  pub fits-p : (Lead a j → ⊥)
+      → ((k : ℕ) → k ≢ j → a .runs k → a .live Ack j k → Relies (a .st k) k (a .st j) (a .ld j) → Relies (a .st k) k P l) → Safe a P (λ i. i ≡ j) → Fits a j P l w
+  fits-p idle relied o =
       record {
         run = r;
         votes = g;
@@ -174,12 +186,8 @@ module _ (a : View) (j l : ℕ) (w : ℕ → Type 0) (v : Inv a) (r : a .runs j)
         waiting = λ f. absurd (f .1);
         lead = λ h. absurd (idle h);
         relied = relied;
-        prepared = λ _. p;
-        aborted = λ e. absurd e;
+        safe = o;
         silent = λ e. absurd e;
-        committed = λ e. absurd e;
-        beside-a = λ e. absurd (na e);
-        beside-c = λ _. tt;
       }
 
   -- in q a site acknowledged nobody that waits for p

@@ -7,45 +7,15 @@ use native.Mathlib.Decide.{ℕ-discrete, decLt}
 use native.Mathlib.Omega.{arith}
 use Rattle.site.specs.declared.State.{State}
 use Rattle.site.specs.declared.State.the-variants.{Q, W, P, A, C}
-use Rattle.promise.specs.Classes.{Kind, Start, Yes, No, MoveP, MoveW, Ack, Commit, Abort, byState, IsQ, WA, PC, QWA, Order, Prepares, Yields, atOrder, Stands, Relies, First, IsYes, IsAck, Gives, relies-if, order-gives, yes-gives, wa-in-qwa, Final}
-use Rattle.promise.specs.View.{View, seen, told, EA, EC, Lead, Lowest, MayPrepare, MayAbort, MayCommit, nobody, Inv}
+use Rattle.promise.specs.Classes.{Kind, Start, Yes, No, MoveP, MoveW, Ack, Commit, Abort, byState, IsQ, WA, PC, QWA, Order, atOrder, Stands, Relies, First, IsYes, IsAck, Gives, relies-if, order-gives, yes-gives, wa-in-qwa, Final}
+use Rattle.promise.specs.View.{View, seen, told, EA, Lead, Lowest, MayPrepare, MayAbort, MayCommit, Safe, nobody, Inv}
 use Rattle.promise.specs.Less.{Votes, stop, stop-inv, stop-prepare, stop-abort, stop-commit}
 use Rattle.promise.specs.Become.{upd-same, upd-other, become, Fits, become-inv}
-use Rattle.promise.specs.Send.{send, Ready, send-inv}
+use Rattle.promise.specs.Send.{send, send-inv}
 use Rattle.promise.specs.Does.{Only, Uses, Does, begin-yes, begin-no, start-yes, start-no, give-up, prepare, move-p, stay-p, move-w, stay-w, commit, abort, over-q, over, end-a, end-c, noted, passed}
-use Rattle.promise.specs.Fitting.{ease-prepare, ease-abort, unprepared, fits-same, fits-a, fits-c, fits-w, fits-p, relies-q, obeyed, obey-p, obey-w}
-
--- Orders that are safe to leave.
-module _ (a : View) (x : ℕ → Type 0) where
-  pub ready-p : MayPrepare a x → (EA a → ⊥) → Ready a MoveP x
-  ready-p p n =
-      record { prepare = λ _. p; abort = λ e. absurd (subst Prepares e tt); commit = λ e. absurd (subst (λ (c : Kind). Stands c P) e tt); beside-a = λ e _. n e; beside-c = λ _ y. y }
-
-  pub ready-w : (EC a → ⊥) → Ready a MoveW x
-  ready-w n =
-      record { prepare = λ y. absurd y; abort = λ e. absurd (subst (λ (c : Kind). Stands c W) e tt); commit = λ e. absurd (subst Yields e tt); beside-a = λ _ y. y; beside-c = λ e _. n e }
-
-  pub ready-c : MayPrepare a x → MayCommit a → Ready a Commit x
-  ready-c p o = record { prepare = λ _. p; abort = λ e. absurd (subst Prepares e tt); commit = λ _. o; beside-a = λ e _. o .apart e; beside-c = λ _ y. y }
-
-  pub ready-a : MayAbort a x → Ready a Abort x
-  ready-a o = record { prepare = λ y. absurd y; abort = λ _. o; commit = λ e. absurd (subst Yields e tt); beside-a = λ _ y. y; beside-c = λ e _. o .apart e }
+use Rattle.promise.specs.Fitting.{ease-prepare, ease-abort, ease, standing, safe-w, safe-p, safe-a, safe-c, unprepared, fits-same, fits-a, fits-c, fits-w, fits-p, relies-q, obeyed, obey-p, obey-w}
 
 module _ (a : View) (j : ℕ) (v : Inv a) (r : a .runs j) where
-  -- a running site in the state for an order may give it
-  pub standing : (κ : Kind) → Order κ → a .st j ≡ atOrder κ → Ready a κ nobody
-  standing MoveP o e = ready-p a nobody (v .prepared (seen j (rw e tt))) (λ x. rw e at (v .aborted x .none j r))
-  standing MoveW o e = ready-w a nobody (λ x. rw e at (v .committed x .each j r))
-  standing Commit o e = ready-c a nobody (v .prepared (seen j (rw e tt))) (v .committed (seen j (rw e tt)))
-  standing Abort o e = ready-a a nobody (v .aborted (seen j (rw e tt)))
-  standing Start o e = absurd o
-  standing Yes o e = absurd o
-  standing No o e = absurd o
-  standing Ack o e = absurd o
-
-  ease : (κ : Kind) → Ready a κ nobody → Ready a κ (λ i. i ≡ j)
-  ease κ h = record { prepare = λ c. ease-prepare a j (h .prepare c); abort = λ c. ease-abort a j (h .abort c); commit = h .commit; beside-a = h .beside-a; beside-c = h .beside-c }
-
   -- a site in q, or in its first phase, may abort
   by-q : IsQ (a .st j) → MayAbort a (λ i. i ≡ j)
   by-q q = unprepared a j (λ e. v .unvoted j r q (v .prepared e .all j)) (λ i _. inr (record { site = j; silent = v .unvoted j r q; past = λ _ _. refl }))
@@ -152,26 +122,35 @@ module _ (a : View) (j : ℕ) (v : Inv a) (r : a .runs j) where
   ordered (noted z) o = absurd o
   ordered (passed i z) o = absurd o
 
-  -- the order is safe, before the step
-  pub readied : {s : State} {l : ℕ} {κ : Kind} {y : Uses} {T : ℕ → Type 0} → Does a j T s l κ y → Order κ → Ready a κ (λ i. i ≡ j)
-  readied (begin-yes e q l t) o = absurd o
-  readied (begin-no e q l t) o = ready-a a _ (by-q a j v r (rw q tt))
-  readied (start-yes h ne q m t) o = absurd o
-  readied (start-no h ne q m t) o = absurd o
-  readied (give-up e w l t) o = ready-a a _ (by-open a j v r (e, rw w tt))
-  readied (prepare e w l h t) o = ready-p a _ (all-prepare a j v r (e, rw w tt) w h) (none-aborted a j v r (e, rw w tt) w h)
-  readied (move-p h1 h m w t) o = absurd o
-  readied (stay-p h1 h m e p t) o = absurd o
-  readied (move-w h1 h m q t) o = absurd o
-  readied (stay-w h1 h m e t) o = absurd o
-  readied (commit h1 h m z) o = absurd o
-  readied (abort h1 h m z) o = absurd o
-  readied (over-q h1 h n q t) o = ready-a a _ (by-q a j v r (rw q tt))
-  readied {κ = κ} (over o h1 h n e t) _ = ease a j v r κ (standing a j v r κ o e)
-  readied (end-a l w h t) o = ready-a a _ (may-abort a j v r l h w)
-  readied (end-c l p h t) o = ready-c a _ (ease-prepare a j (v .prepared (seen j (rw p tt)))) (may-commit a j v r l h p)
-  readied (noted z) o = absurd o
-  readied (passed i z) o = absurd o
+  -- the state that j comes to is safe, before the step
+  kept : {s : State} → a .st j ≡ s → Safe a s (λ i. i ≡ j)
+  kept e = subst (λ (s : State). Safe a s (λ i. i ≡ j)) e (ease a j (standing a j v r))
+
+  q-waits : a .st j ≡ Q → Safe a W (λ i. i ≡ j)
+  q-waits q = safe-w a (λ x. rw q at (v .committed x .each j r))
+
+  q-aborts : a .st j ≡ Q → Safe a A (λ i. i ≡ j)
+  q-aborts q = safe-a a (by-q a j v r (rw q tt))
+
+  pub safe : {s : State} {l : ℕ} {κ : Kind} {y : Uses} {T : ℕ → Type 0} → Does a j T s l κ y → Safe a s (λ i. i ≡ j)
+  safe (begin-yes e q l t) = q-waits q
+  safe (begin-no e q l t) = q-aborts q
+  safe (start-yes h ne q m t) = q-waits q
+  safe (start-no h ne q m t) = q-aborts q
+  safe (give-up e w l t) = safe-a a (by-open a j v r (e, rw w tt))
+  safe (prepare e w l h t) = safe-p a (all-prepare a j v r (e, rw w tt) w h) (none-aborted a j v r (e, rw w tt) w h)
+  safe (move-p {k} h1 h m w t) = safe-p a (ease-prepare a j (v .prepared (told MoveP k j tt m))) (λ e. let c : k < a .ld j = v .aborted e .deaf k j m r in omega arith)
+  safe (stay-p h1 h m e p t) = kept e
+  safe (move-w {k} h1 h m q t) = safe-w a (λ e. let c : k < a .ld j = v .committed e .deaf k j m r in omega arith)
+  safe (stay-w h1 h m e t) = kept e
+  safe (commit {k} h1 h m z) = safe-c a (ease-prepare a j (v .prepared (told Commit k j tt m))) (v .committed (told Commit k j refl m))
+  safe (abort {k} h1 h m z) = safe-a a (ease-abort a j (v .aborted (told Abort k j refl m)))
+  safe (over-q h1 h n q t) = q-aborts q
+  safe (over o h1 h n e t) = kept e
+  safe (end-a l w h t) = safe-a a (may-abort a j v r l h w)
+  safe (end-c l p h t) = safe-c a (ease-prepare a j (v .prepared (seen j (rw p tt)))) (may-commit a j v r l h p)
+  safe (noted z) = kept refl
+  safe (passed i z) = kept refl
 
   -- who is acknowledged leads, and can rely on j afterwards
   pub record Answered (i : ℕ) (s : State) (l : ℕ) : Type 0 where
@@ -220,44 +199,40 @@ module _ (a : View) (j : ℕ) (v : Inv a) (r : a .runs j) where
 
   -- the new record fits
   module _ (w : ℕ → Type 0) (g : Votes a j w) where
-    following : {s : State} → (l : ℕ) → a .ld j ≤ l → l ≤ j → (w j → a .voted j) → a .st j ≡ s → Fits a j s l w
-    following l h o quiet e = subst (λ (s : State). Fits a j s l w) e (fits-same a j l w v r g h o quiet)
+    following : {s : State} → (l : ℕ) → a .ld j ≤ l → l ≤ j → (w j → a .voted j) → a .st j ≡ s → Safe a s (λ i. i ≡ j) → Fits a j s l w
+    following l h o quiet e = subst (λ (s : State). Safe a s (λ i. i ≡ j) → Fits a j s l w) e (fits-same a j l w v r g h o quiet)
 
-    pub fits : {s : State} {l : ℕ} {κ : Kind} {y : Uses} {T : ℕ → Type 0} → Does a j T s l κ y → (Gives κ → w j) → ((Gives κ → ⊥) → w j → a .voted j) → Fits a j s l w
+    pub fits : {s : State} {l : ℕ} {κ : Kind} {y : Uses} {T : ℕ → Type 0} → Does a j T s l κ y → (Gives κ → w j) → ((Gives κ → ⊥) → w j → a .voted j) → Safe a s (λ i. i ≡ j) → Fits a j s l w
     fits (begin-yes e q l t) y n =
-        fits-w a j (a .ld j) w v r g (omega arith) (v .low j) (λ f. (f .0, rw q tt)) (λ _. y tt) (λ h. h .1 (e, rw q tt)) (λ x. rw q at (v .committed x .each j r))
+        fits-w a j (a .ld j) w v r g (omega arith) (v .low j) (λ f. (f .0, rw q tt)) (λ _. y tt) (λ h. h .1 (e, rw q tt))
         (λ k _ _ _. relies-q a j (a .ld j) w v r g (omega arith) (v .low j) k (rw q tt))
-    fits (begin-no e q l t) y n = fits-a a j (a .ld j) w v r g (omega arith) (v .low j) (rw q tt) (by-q a j v r (rw q tt)) (n (λ x. x))
+    fits (begin-no e q l t) y n = fits-a a j (a .ld j) w v r g (omega arith) (v .low j) (rw q tt) (n (λ x. x))
     fits (start-yes h ne q m t) y n =
         fits-w a j (a .ld j) w v r g (omega arith) (v .low j) (λ f. absurd (ne (f .0))) (λ f. absurd (ne (f .0)))
-        (λ x. let c : a .ld j ≡ j = x .0 in let d : 1 ≤ j = v .site j r in ne (omega arith)) (λ x. rw q at (v .committed x .each j r))
+        (λ x. let c : a .ld j ≡ j = x .0 in let d : 1 ≤ j = v .site j r in ne (omega arith))
         (λ k _ _ _. relies-q a j (a .ld j) w v r g (omega arith) (v .low j) k (rw q tt))
-    fits (start-no h ne q m t) y n = fits-a a j (a .ld j) w v r g (omega arith) (v .low j) (rw q tt) (by-q a j v r (rw q tt)) (n (λ x. x))
-    fits (give-up e q l t) y n = fits-a a j (a .ld j) w v r g (omega arith) (v .low j) (rw q tt) (by-open a j v r (e, rw q tt)) (n (λ x. x))
+    fits (start-no h ne q m t) y n = fits-a a j (a .ld j) w v r g (omega arith) (v .low j) (rw q tt) (n (λ x. x))
+    fits (give-up e q l t) y n = fits-a a j (a .ld j) w v r g (omega arith) (v .low j) (rw q tt) (n (λ x. x))
     fits (prepare e q l h t) y n =
-        fits-p a j (a .ld j) w v r g (omega arith) (v .low j) (λ x. x .1 (e, rw q tt)) (all-prepare a j v r (e, rw q tt) q h) (none-aborted a j v r (e, rw q tt) q h)
-        (λ k _ x m. absurd (first-lowest e k (v .down k j m) x))
+        fits-p a j (a .ld j) w v r g (omega arith) (v .low j) (λ x. x .1 (e, rw q tt)) (λ k _ x m. absurd (first-lowest e k (v .down k j m) x))
     fits (move-p {k} h1 h m q t) y n =
         fits-p a j k w v r g h (omega (arith, v .up MoveP k j tt m)) (λ x. let c : k < j = v .up MoveP k j tt m in let d : a .ld j ≡ j = x .0 in omega arith)
-        (ease-prepare a j (v .prepared (told MoveP k j tt m))) (λ e. let c : k < a .ld j = v .aborted e .deaf k j m r in omega arith)
         (λ i _ x _. obey-p a k j v h m i x)
     fits (stay-p {s} {k} h1 h m e p t) y n = following k h (omega (arith, v .up MoveP k j tt m)) (n (λ x. x)) e
     fits (move-w {k} h1 h m q t) y n =
         fits-w a j k w v r g h (omega (arith, v .up MoveW k j tt m)) (λ f. absurd (above1 (f .0))) (λ f. absurd (above1 (f .0)))
         (λ x. let c : k < j = v .up MoveW k j tt m in let d : a .ld j ≡ j = x .0 in omega arith)
-        (λ e. let c : k < a .ld j = v .committed e .deaf k j m r in omega arith)
         (λ i _ x _. obey-w a k j v h m i x)
       where
         above1 : j ≡ 1 → ⊥
         above1 e = let c : k < j = v .up MoveW k j tt m in omega arith
     fits (stay-w {k} h1 h m e t) y n = following k h (omega (arith, v .up MoveW k j tt m)) (n (λ x. x)) e
-    fits (commit {k} h1 h m z) y n = fits-c a j k w v r g h (omega (arith, v .up Commit k j tt m)) (v .committed (told Commit k j refl m) .each j r) (v .committed (told Commit k j refl m))
-    fits (abort {k} h1 h m z) y n =
-        fits-a a j k w v r g h (omega (arith, v .up Abort k j tt m)) (v .aborted (told Abort k j refl m) .none j r) (ease-abort a j (v .aborted (told Abort k j refl m))) (n (λ x. x))
-    fits (over-q h1 h d q t) y n = fits-a a j j w v r g (omega arith) (omega arith) (rw q tt) (by-q a j v r (rw q tt)) (n (λ x. x))
+    fits (commit {k} h1 h m z) y n = fits-c a j k w v r g h (omega (arith, v .up Commit k j tt m)) (v .committed (told Commit k j refl m) .each j r)
+    fits (abort {k} h1 h m z) y n = fits-a a j k w v r g h (omega (arith, v .up Abort k j tt m)) (v .aborted (told Abort k j refl m) .none j r) (n (λ x. x))
+    fits (over-q h1 h d q t) y n = fits-a a j j w v r g (omega arith) (omega arith) (rw q tt) (n (λ x. x))
     fits {κ = κ} (over o h1 h d e t) y n = following j (omega arith) (omega arith) (n (order-gives κ o)) e
-    fits (end-a l q h t) y n = fits-a a j (a .ld j) w v r g (omega arith) (v .low j) (rw q tt) (may-abort a j v r l h q) (n (λ x. x))
-    fits (end-c l q h t) y n = fits-c a j (a .ld j) w v r g (omega arith) (v .low j) (rw q tt) (may-commit a j v r l h q)
+    fits (end-a l q h t) y n = fits-a a j (a .ld j) w v r g (omega arith) (v .low j) (rw q tt) (n (λ x. x))
+    fits (end-c l q h t) y n = fits-c a j (a .ld j) w v r g (omega arith) (v .low j) (rw q tt)
     fits (noted z) y n = following (a .ld j) (omega arith) (v .low j) (n (λ x. x)) refl
     fits (passed i z) y n = following (a .ld j) (omega arith) (v .low j) (n (λ x. x)) refl
 
@@ -294,13 +269,13 @@ module _ (a : View) (j : ℕ) (v : Inv a) (r : a .runs j) (w : ℕ → Type 0) (
         up = λ o i x. ordered a j v r c o .above i (within i x);
         lowest = λ o. ordered a j v r c o .lowest;
         orders = λ o _. lead (ordered a j v r c o) o;
-        ready = λ o. standing b j u r κ o (st-j ∙ ordered a j v r c o .state);
+        ready = λ o. subst (λ (s : State). Safe b s nobody) (st-j ∙ ordered a j v r c o .state) (standing b j u r);
         yes = λ x _ _. y (yes-gives κ x);
         ack = λ x i z. ack i (answered a j v r c x i (within i z));
       })
     where
       u : Inv b
-      u = become-inv a j s l w v (fits a j v r w g c y n)
+      u = become-inv a j s l w v (fits a j v r w g c y n (safe a j v r c))
 
       lead : Ordered a j s l κ T → Order κ → Lead b j × Stands κ (b .st j)
       lead d o =
@@ -317,17 +292,17 @@ module _ (a : View) (j : ℕ) (v : Inv a) (r : a .runs j) (w : ℕ → Type 0) (
         up = λ o i x. ordered a j v r c o .above i (within i x);
         lowest = λ o i h x. ordered a j v r c o .lowest i h (x .0);
         orders = λ o x. absurd (x .1 refl);
-        ready = λ o. ready o (readied a j v r c o);
+        ready = λ o. subst (λ (s : State). Safe (stop a j w) s nobody) (ordered a j v r c o .state) (left o (safe a j v r c));
         yes = y;
         ack = λ x i z. let d = answered a j v r c x i (within i z) in (d .above, λ y. d .leads (y .0), λ _ y. absurd (y .1 refl));
       })
     where
-      ready : Order κ → Ready a κ (λ i. i ≡ j) → Ready (stop a j w) κ nobody
-      ready o h =
+      left : Order κ → Safe a s (λ i. i ≡ j) → Safe (stop a j w) s nobody
+      left o h =
           record {
-            prepare = λ p. stop-prepare a j w r g (n o) (h .prepare p);
-            abort = λ p. stop-abort a j w r g (n o) (h .abort p);
-            commit = λ p. stop-commit a j w r g (n o) (h .commit p);
+            prepared = λ p. stop-prepare a j w r g (n o) (h .prepared p);
+            aborted = λ p. stop-abort a j w r g (n o) (h .aborted p);
+            committed = λ p. stop-commit a j w r g (n o) (h .committed p);
             beside-a = h .beside-a;
             beside-c = h .beside-c;
           }

@@ -4,20 +4,12 @@ use Prim.Native.Nat.{ℕ, _<_}
 use mathlib.Core.Path.{_≡_, sym, subst}
 use mathlib.Core.Logic.{_⊎_, inl, inr, ⊎-elim}
 use Rattle.site.specs.declared.State.{State}
-use Rattle.promise.specs.Classes.{Kind, Yes, MoveP, MoveW, Ack, IsA, IsC, PC, Order, Prepares, Yields, IsYes, IsAck, IsCommit, IsAbort, Stands, Relies, prepares-order, yields-order}
-use Rattle.promise.specs.View.{View, Evidence, seen, told, EP, EA, EC, Lead, Lowest, Mute, MayPrepare, MayAbort, MayCommit, nobody, Inv}
+use Rattle.promise.specs.Classes.{Kind, Yes, MoveP, MoveW, Ack, IsA, IsC, PC, Order, Prepares, Yields, IsYes, IsAck, IsCommit, IsAbort, atOrder, Stands, Relies, prepares-order, yields-order, pc-not-qwa, pc-not-wa}
+use Rattle.promise.specs.View.{View, Evidence, seen, told, EP, EA, EC, Lead, Lowest, Mute, MayPrepare, MayAbort, MayCommit, Safe, nobody, Inv}
 
 -- Messages of kind κ from k to the sites of R, beside the live ones.
 abbrev pub send : View → Kind → ℕ → (ℕ → Type 0) → View
 send a κ k R = record { runs = a .runs; st = a .st; ld = a .ld; voted = a .voted; live = λ κ′ i j. a .live κ′ i j ⊎ ((κ ≡ κ′) × (k ≡ i) × R j) }
-
--- When messages of kind κ are safe, as evidence and beside the evidence there is.
-pub record Ready (a : View) (κ : Kind) (exempt : ℕ → Type 0) : Type 0 where
-  pub prepare : Prepares κ → MayPrepare a exempt
-  pub abort : IsAbort κ → MayAbort a exempt
-  pub commit : IsCommit κ → MayCommit a
-  pub beside-a : EA a → Prepares κ → ⊥
-  pub beside-c : EC a → Yields κ → ⊥
 
 -- What messages of kind κ from k to the sites of R have to respect.
 pub record May (a : View) (κ : Kind) (k : ℕ) (R : ℕ → Type 0) : Type 0 where
@@ -25,7 +17,7 @@ pub record May (a : View) (κ : Kind) (k : ℕ) (R : ℕ → Type 0) : Type 0 wh
   pub up : Order κ → (j : ℕ) → R j → k < j
   pub lowest : Order κ → Lowest a k
   pub orders : Order κ → a .runs k → Lead a k × Stands κ (a .st k)
-  pub ready : Order κ → Ready a κ nobody
+  pub ready : Order κ → Safe a (atOrder κ) nobody
   -- a Yes comes from a site that has voted
   pub yes : IsYes κ → (j : ℕ) → R j → a .voted k
   -- an acknowledgement goes to a lower leader, which can rely on it
@@ -70,27 +62,27 @@ module _ (a : View) (κ : Kind) (k : ℕ) (R : ℕ → Type 0) (v : Inv a) (m : 
   commit n x p = record { each = p .each; deaf = msg MoveW (λ i j. a .runs j → i < a .ld j) (p .deaf) (λ e. absurd (n e)); apart = x }
 
   beside-p : EA a → Prepares κ → ⊥
-  beside-p e c = m .ready (prepares-order κ c) .beside-a e c
+  beside-p e c = pc-not-qwa (atOrder κ) c (m .ready (prepares-order κ c) .beside-a e)
 
   beside-y : EC a → Yields κ → ⊥
-  beside-y e c = m .ready (yields-order κ c) .beside-c e c
+  beside-y e c = pc-not-wa (atOrder κ) (m .ready (yields-order κ c) .beside-c e) c
 
   prepared-after : EP a ⊎ Prepares κ → MayPrepare b nobody
   prepared-after (inl e) = prepare (v .prepared e)
-  prepared-after (inr c) = prepare (m .ready (prepares-order κ c) .prepare c)
+  prepared-after (inr c) = prepare (m .ready (prepares-order κ c) .prepared c)
 
   aborted-after : EA a ⊎ IsAbort κ → MayAbort b nobody
   aborted-after (inl e) =
       abort (λ c. beside-p e (rw c tt)) (λ x. ⊎-elim (v .aborted e .apart) (λ c. beside-p e (rw c tt)) (new IsC IsCommit x)) (v .aborted e)
   aborted-after (inr c) =
-      let p : MayAbort a nobody = m .ready (rw c tt) .abort c in
+      let p : MayAbort a nobody = m .ready (rw c tt) .aborted (rw c tt) in
       abort (λ d. subst Yields d (rw c tt)) (λ x. ⊎-elim (p .apart) (λ d. subst Yields d (rw c tt)) (new IsC IsCommit x)) p
 
   committed-after : EC a ⊎ IsCommit κ → MayCommit b
   committed-after (inl e) =
       commit (λ c. beside-y e (rw c tt)) (λ x. ⊎-elim (v .committed e .apart) (λ c. beside-y e (rw c tt)) (new IsA IsAbort x)) (v .committed e)
   committed-after (inr c) =
-      let p : MayCommit a = m .ready (rw c tt) .commit c in
+      let p : MayCommit a = m .ready (rw c tt) .committed (rw c tt) in
       commit (λ d. subst Prepares d (rw c tt)) (λ x. ⊎-elim (p .apart) (λ d. subst Prepares d (rw c tt)) (new IsA IsAbort x)) p
 
   pub send-inv : Inv b

@@ -74,6 +74,14 @@ pub record MayCommit (a : View) : Type 0 where
   -- no site aborted
   pub apart : EA a → ⊥
 
+-- When a state s is safe to come to, or to give its order in: as evidence, and beside the evidence there is.
+pub record Safe (a : View) (s : State) (exempt : ℕ → Type 0) : Type 0 where
+  pub prepared : PC s → MayPrepare a exempt
+  pub aborted : IsA s → MayAbort a exempt
+  pub committed : IsC s → MayCommit a
+  pub beside-a : EA a → QWA s
+  pub beside-c : EC a → PC s
+
 abbrev pub nobody : ℕ → Type 0
 nobody i = ⊥
 
