@@ -7,7 +7,7 @@ use native.Mathlib.Decide.{decLt}
 use native.Mathlib.Omega.{arith}
 use Rattle.site.specs.declared.State.{State}
 use Rattle.site.specs.declared.State.the-variants.{Q, W, P, A, C}
-use Rattle.promise.specs.Classes.{Kind, MoveP, MoveW, Ack, IsQ, WA, PC, QWA, Order, Stands, Relies, First, Onward, stays, drops, gives-up, commits, relies-if, pc-not-qwa, pc-not-wa, pc-not-q, c-in-pc, rest-in-qwa}
+use Rattle.promise.specs.Classes.{Kind, MoveP, MoveW, Ack, IsQ, IsA, WA, PC, QWA, Order, Stands, Relies, First, Onward, stays, drops, gives-up, commits, relies-if, pc-not-qwa, pc-not-wa, pc-not-q, c-in-pc, rest-in-qwa}
 use Rattle.promise.specs.View.{View, seen, told, EP, EA, EC, Open, Lead, Mute, MayPrepare, MayAbort, MayCommit, Safe, nobody, Inv}
 use Rattle.promise.specs.Less.{Votes}
 use Rattle.promise.specs.Become.{Fits}
@@ -102,6 +102,29 @@ module _ (a : View) (j l : ℕ) (w : ℕ → Type 0) (v : Inv a) (r : a .runs j)
         silent = λ _. quiet;
       }
 
+  -- who relied on j can rely on it in state s
+  abbrev Relied : State → Type 0
+  Relied s = (k : ℕ) → k ≢ j → a .runs k → a .live Ack j k → Relies (a .st k) k (a .st j) (a .ld j) → Relies (a .st k) k s l
+
+  -- to another state than q
+  fits-to : (s : State) → (IsQ s → ⊥) → (First j s → First j (a .st j)) → (First j s → w j) → (Lead a j → Onward (a .st j) s) → Relied s → (IsA s → w j → a .voted j)
+      → Safe a s (λ i. i ≡ j) → Fits a j s l w
+  fits-to s n first waiting lead relied silent safe =
+      record {
+        run = r;
+        votes = g;
+        rise = rise;
+        own = own;
+        left = λ q. absurd (n q);
+        unvoted = λ q. absurd (n q);
+        first = first;
+        waiting = λ f _. waiting f;
+        lead = lead;
+        relied = relied;
+        safe = safe;
+        silent = silent;
+      }
+
   -- to a
   onward-a : (s : State) → QWA s → Onward s A
   onward-a Q x = drops
@@ -111,21 +134,9 @@ module _ (a : View) (j l : ℕ) (w : ℕ → Type 0) (v : Inv a) (r : a .runs j)
   onward-a C x = absurd x
 
   pub fits-a : QWA (a .st j) → (w j → a .voted j) → Safe a A (λ i. i ≡ j) → Fits a j A l w
-  fits-a q quiet o =
-      record {
-        run = r;
-        votes = g;
-        rise = rise;
-        own = own;
-        left = λ e. absurd e;
-        unvoted = λ e. absurd e;
-        first = λ f. absurd (f .1);
-        waiting = λ f. absurd (f .1);
-        lead = λ _. onward-a (a .st j) q;
-        relied = λ k _ _ _. still-relies a j l rise A k (λ _ _ _. tt) (λ _ _ x. absurd (pc-not-qwa (a .st j) x q));
-        safe = o;
-        silent = λ _. quiet;
-      }
+  fits-a q quiet =
+      fits-to A (λ e. e) (λ f. absurd (f .1)) (λ f. absurd (f .1)) (λ _. onward-a (a .st j) q)
+      (λ k _ _ _. still-relies a j l rise A k (λ _ _ _. tt) (λ _ _ x. absurd (pc-not-qwa (a .st j) x q))) (λ _. quiet)
 
   -- to c
   onward-c : (s : State) → PC s → Onward s C
@@ -136,59 +147,16 @@ module _ (a : View) (j l : ℕ) (w : ℕ → Type 0) (v : Inv a) (r : a .runs j)
   onward-c C x = stays
 
   pub fits-c : PC (a .st j) → Safe a C (λ i. i ≡ j) → Fits a j C l w
-  fits-c q o =
-      record {
-        run = r;
-        votes = g;
-        rise = rise;
-        own = own;
-        left = λ e. absurd e;
-        unvoted = λ e. absurd e;
-        first = λ f. absurd (f .1);
-        waiting = λ f. absurd (f .1);
-        lead = λ _. onward-c (a .st j) q;
-        relied = λ k _ _ _. still-relies a j l rise C k (λ _ _ x. absurd (pc-not-wa (a .st j) q x)) (λ _ _ _. tt);
-        safe = o;
-        silent = λ e. absurd e;
-      }
+  fits-c q =
+      fits-to C (λ e. e) (λ f. absurd (f .1)) (λ f. absurd (f .1)) (λ _. onward-c (a .st j) q)
+      (λ k _ _ _. still-relies a j l rise C k (λ _ _ x. absurd (pc-not-wa (a .st j) q x)) (λ _ _ _. tt)) (λ e. absurd e)
 
-  -- to w, at a site that does not lead
-  pub fits-w : (First j W → First j (a .st j)) → (First j W → w j) → (Lead a j → ⊥)
-      → ((k : ℕ) → k ≢ j → a .runs k → a .live Ack j k → Relies (a .st k) k (a .st j) (a .ld j) → Relies (a .st k) k W l) → Safe a W (λ i. i ≡ j) → Fits a j W l w
-  fits-w first waiting idle relied o =
-      record {
-        run = r;
-        votes = g;
-        rise = rise;
-        own = own;
-        left = λ e. absurd e;
-        unvoted = λ e. absurd e;
-        first = first;
-        waiting = λ f _. waiting f;
-        lead = λ h. absurd (idle h);
-        relied = relied;
-        safe = o;
-        silent = λ e. absurd e;
-      }
+  -- to w or p, at a site that does not lead
+  pub fits-w : (First j W → First j (a .st j)) → (First j W → w j) → (Lead a j → ⊥) → Relied W → Safe a W (λ i. i ≡ j) → Fits a j W l w
+  fits-w first waiting idle relied = fits-to W (λ e. e) first waiting (λ h. absurd (idle h)) relied (λ e. absurd e)
 
-  -- to p, at a site that does not lead
-  pub fits-p : (Lead a j → ⊥)
-      → ((k : ℕ) → k ≢ j → a .runs k → a .live Ack j k → Relies (a .st k) k (a .st j) (a .ld j) → Relies (a .st k) k P l) → Safe a P (λ i. i ≡ j) → Fits a j P l w
-  fits-p idle relied o =
-      record {
-        run = r;
-        votes = g;
-        rise = rise;
-        own = own;
-        left = λ e. absurd e;
-        unvoted = λ e. absurd e;
-        first = λ f. absurd (f .1);
-        waiting = λ f. absurd (f .1);
-        lead = λ h. absurd (idle h);
-        relied = relied;
-        safe = o;
-        silent = λ e. absurd e;
-      }
+  pub fits-p : (Lead a j → ⊥) → Relied P → Safe a P (λ i. i ≡ j) → Fits a j P l w
+  fits-p idle relied = fits-to P (λ e. e) (λ f. absurd (f .1)) (λ f. absurd (f .1)) (λ h. absurd (idle h)) relied (λ e. absurd e)
 
   -- in q a site acknowledged nobody that waits for p
   pub relies-q : (k : ℕ) → IsQ (a .st j) → Relies (a .st k) k (a .st j) (a .ld j) → Relies (a .st k) k W l
