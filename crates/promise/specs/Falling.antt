@@ -19,7 +19,6 @@ use Rattle.site.specs.declared.Step.the-variants as step
 use Rattle.site.specs.declared.Site.{Site as Record}
 use Rattle.site.specs.declared.Done.{Done}
 use Rattle.site.specs.Site.{inRun, namesOf}
-use Rattle.site.specs.Step.{ruleOf}
 use Rattle.run.specs.declared.Run.{Run}
 use Rattle.run.specs.declared.Event.{Event}
 use Rattle.run.specs.declared.Event.the-variants.{Act, Stop, Cut}
@@ -28,14 +27,13 @@ use Rattle.run.specs.Event.{isThere, delivered, eventOf}
 use Rattle.run.specs.After.{Tale, acceptedBy, onward, told, opening, after}
 use Rattle.sets.specs.Truths.{and-l, and-r}
 use Rattle.promise.specs.SetsMembers.{In, minus-in, both-l, in-with, with-in, in-with-new}
-use Rattle.promise.specs.RunViews.{recordOf, record-at, replaced, others, Runs, stoppedNet, sentNet}
-use Rattle.run.specs.Sound.{Sound}
+use Rattle.promise.specs.RunViews.{recordOf, Runs, stoppedNet}
 use Rattle.run.specs.SoundLaws.{sound-parts}
 use Rattle.promise.specs.RunEvents.{Allowed, Denied, Halted, Unhalted, decide, decide-stop}
-use Rattle.promise.specs.Seen.{number, viewOf, wholeRun, partRun}
+use Rattle.promise.specs.Seen.{number, viewOf}
 use Rattle.promise.specs.Brings.{Notices, weigh, netWorth, newsWorth}
-use Rattle.promise.specs.Stepping.{in-run, Stepped}
-use Rattle.promise.specs.Keeping.{Held, Now, With, delivered-len, sound, s8, K, seen, kinds, whole-run, part-run, keeps}
+use Rattle.promise.specs.Stepping.{in-run}
+use Rattle.promise.specs.Keeping.{Held, Now, With, delivered-len, doneAt, kindAt, wholeAt, leaving, partAt, Known, known, keeps}
 use Rattle.promise.specs.Count.{by-size, members-above, members-only, members-none, members-some}
 use Rattle.promise.specs.Measure.{own, falls}
 use Rattle.promise.specs.Potential.{messages, messages-sent, messages-taken, messages-halted, messages-stopped, partOf, parts, part-runs, part-stopped, parts-at, pairs, pairs-le, pairs-learn, potential, potential-is, fresh-potential}
@@ -95,30 +93,20 @@ module _ (r : Run) (s : ℕ) (x : Runs r s) (n8 : r .n ≤ 8) (net : List ℕ) w
 
 -- Site s takes a step.
 module _ (w : ℕ → Type 0) (r : Run) (h : Held w r) (s : ℕ) (t : Step) (al : Allowed r s t) where
-  good : Sound r
-  good = sound w r h s t al
-
-  most : s ≤ 8
-  most = s8 w r h s t al
-
-  -- the kind of what is written
-  abbrev kind : ℕ
-  kind = K w r h s t al
+  open Known (known w r h s t al) using (good, seen as y, kinds, whole-run, part-run, here, new, still)
 
   abbrev z : Record
   z = siteAt r s
 
   abbrev d : Done
-  d = ruleOf z t
+  d = doneAt r s t
 
-  abbrev y : Stepped w r (sound w r h s t al) (h .inv) s (al .runs) t d
-  y = seen w r h s t al
+  -- the kind of what is written, and the run after the whole step
+  abbrev kind : ℕ
+  kind = kindAt r s t
 
-  here : recordOf (r .sites) s ≡ z
-  here = record-at r s (al .runs .least)
-
-  s-in : s ≤ length (r .sites)
-  s-in = omega (arith, h .shape .sites, most)
+  abbrev q : Run
+  q = wholeAt r s t
 
   -- what a running site may still do, before
   abbrev before : ℕ
@@ -134,7 +122,7 @@ module _ (w : ℕ → Type 0) (r : Run) (h : Held w r) (s : ℕ) (t : Step) (al 
           where
             zero-times : (a b : ℕ) → a * 0 ≡ b * 0
             zero-times a b = omega arith
-        go (inr x) = ap (λ (k : ℕ). weigh k * members m 8) (kinds w r h s t al (x .0) (sub (x .0) (x .1)))
+        go (inr x) = ap (λ (k : ℕ). weigh k * members m 8) (kinds (x .0) (sub (x .0) (x .1)))
 
     lowers : own (r .n) s (d .site .state) (d .site .leader) + weigh kind * members m 8 + 1 ≤ before + (netWorth t + newsWorth t)
     lowers =
@@ -147,15 +135,6 @@ module _ (w : ℕ → Type 0) (r : Run) (h : Held w r) (s : ℕ) (t : Step) (al 
         )
 
   -- ---- whole
-
-  abbrev q : Run
-  q = wholeRun r (delivered r s t .net) s (d .site) kind (minus (d .to) (r .stopped))
-
-  new : recordOf (q .sites) s ≡ d .site
-  new = replaced (r .sites) s (d .site) (al .runs .least) s-in
-
-  still : (i : ℕ) → i ≢ s → recordOf (q .sites) i ≡ recordOf (r .sites) i
-  still = others (r .sites) s (d .site) (al .runs .least)
 
   parts-whole : parts q + (1 + before) ≡ parts r + (1 + own (r .n) s (d .site .state) (d .site .leader))
   parts-whole =
@@ -202,7 +181,7 @@ module _ (w : ℕ → Type 0) (r : Run) (h : Held w r) (s : ℕ) (t : Step) (al 
 
   pub whole-falls : potential (eventOf r (Act s t) .run) + 1 ≤ potential r
   whole-falls =
-      rw (whole-run w r h s t al)
+      rw whole-run
       (omega (
         arith,
         potential-is q,
@@ -218,17 +197,17 @@ module _ (w : ℕ → Type 0) (r : Run) (h : Held w r) (s : ℕ) (t : Step) (al 
 
   pub part-falls : (x : ℕ) → potential (eventOf r (Cut s t x) .run) + 1 ≤ potential r
   part-falls x =
-      rw (part-run w r h s t al x)
+      rw (part-run x)
       (omega (
         arith,
-        potential-is (partRun r s kind (minus (both (d .to) x) (withSite (r .stopped) s))),
+        potential-is (partAt r s t x),
         potential-is r,
-        messages-sent (stoppedNet (r .net) s) (length-map (r .net) _ ∙ h .shape .net) kind s (minus (both (d .to) x) (withSite (r .stopped) s)),
+        messages-sent (stoppedNet (r .net) s) (length-map (r .net) _ ∙ h .shape .net) kind s (leaving r s t x),
         net-halted r (h .shape .net) s t (al .there),
-        parts-gone r s (al .runs) (good .most) (sentNet (stoppedNet (r .net) s) kind s (minus (both (d .to) x) (withSite (r .stopped) s))),
-        pairs-gone r s (al .runs) (good .most) (sentNet (stoppedNet (r .net) s) kind s (minus (both (d .to) x) (withSite (r .stopped) s))),
+        parts-gone r s (al .runs) (good .most) (partAt r s t x .net),
+        pairs-gone r s (al .runs) (good .most) (partAt r s t x .net),
         news-one t,
-        lowers (minus (both (d .to) x) (withSite (r .stopped) s)) (λ i y. both-l (d .to) x i (minus-in (both (d .to) x) (withSite (r .stopped) s) i y)),
+        lowers (leaving r s t x) (λ i y. both-l (d .to) x i (minus-in (both (d .to) x) (withSite (r .stopped) s) i y)),
       ))
 
 -- ---- every event

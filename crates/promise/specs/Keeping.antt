@@ -4,7 +4,7 @@ use Prim.Native.Nat.{ℕ, _≤_}
 use mathlib.Core.Bool.{Bool, true, cond}
 use mathlib.Core.List.{List, [], _∷_}
 use mathlib.Core.Path.{_≡_, refl, sym, ap, subst, _∙_}
-use mathlib.Core.Logic.{_⊎_, inl, inr, ⊎-elim}
+use mathlib.Core.Logic.{_≢_, _⊎_, inl, inr, ⊎-elim}
 use native.Mathlib.Decide.{ℕ-discrete}
 use native.Mathlib.Omega.{arith}
 use lib.Dec.{eqb}
@@ -16,7 +16,6 @@ use Rattle.site.specs.declared.Outcome.{Outcome}
 use Rattle.site.specs.declared.Outcome.the-variants.{Taken, Passed, Refused}
 use Rattle.site.specs.declared.Step.{Step}
 use Rattle.site.specs.declared.Step.the-variants as step
-use Rattle.site.specs.declared.Site.{Site as Record}
 use Rattle.site.specs.declared.Done.{Done}
 use Rattle.site.specs.Site.{namesOf}
 use Rattle.site.specs.Step.{ruleOf, doneOf, answered, stepOf}
@@ -29,12 +28,14 @@ use Rattle.run.specs.Sound.{Sound, soundRun}
 use Rattle.run.specs.Event.{refusedRun, isThere, delivered, acted, cutShort, eventOf}
 use Rattle.promise.specs.SetsMembers.{In, in-none, minus-in, both-l, both-r}
 use Rattle.run.specs.Views.{Shape, delivered-net}
-use Rattle.promise.specs.RunViews.{Runs, Out, taken-less}
+use Rattle.promise.specs.RunViews.{recordOf, record-at, replaced, others, Runs, Out, taken-less}
 use Rattle.run.specs.SoundLaws.{sound-parts}
 use Rattle.promise.specs.RunEvents.{Accepted, Allowed, Denied, Halted, decide, decide-stop}
 use Rattle.promise.specs.Classes.{IsYes, Gives, IsQ, order-gives, yes-gives}
 use Rattle.promise.specs.View.{Inv}
-use Rattle.promise.specs.Less.{less, Votes, stop-inv}
+use Rattle.promise.specs.Less.{Less, less, stop, Votes, stop-inv}
+use Rattle.promise.specs.Become.{become}
+use Rattle.promise.specs.Send.{send}
 use Rattle.promise.specs.Safety.{whole, cut}
 use Rattle.promise.specs.Seen.{number, viewOf, wholeRun, wholly-less, stopped-view, partRun, partly-less}
 use Rattle.promise.specs.Brings.{Voices, Starts}
@@ -124,48 +125,81 @@ pub by-rule : (r : Run) (g : Sound r) (s : ℕ) (t : Step) → Runs r s → name
 unfolding stepOf doneOf
 by-rule r g s t x n = simp (g .places s (x .least) (x .most) .sound, n)
 
+-- What a step of site s does, the kind of what it writes, and the run after the whole step.
+abbrev pub doneAt : Run → ℕ → Step → Done
+doneAt r s t = ruleOf (siteAt r s) t
+
+abbrev pub kindAt : Run → ℕ → Step → ℕ
+kindAt r s t = cond (eqb (doneAt r s t .to) 0) 0 (doneAt r s t .kind)
+
+abbrev pub wholeAt : Run → ℕ → Step → Run
+wholeAt r s t = wholeRun r (delivered r s t .net) s (doneAt r s t .site) (kindAt r s t) (minus (doneAt r s t .to) (r .stopped))
+
+-- Where s stops inside the step and messages to x leave: to whom, and the run after it.
+abbrev pub leaving : Run → ℕ → Step → ℕ → ℕ
+leaving r s t x = minus (both (doneAt r s t .to) x) (withSite (r .stopped) s)
+
+abbrev pub partAt : Run → ℕ → Step → ℕ → Run
+partAt r s t x = partRun r s (kindAt r s t) (leaving r s t x)
+
+-- What is known of an accepted step.
+pub record Known (w : ℕ → Type 0) (r : Run) (h : Held w r) (s : ℕ) (t : Step) (al : Allowed r s t) : Type 0 where
+  pub good : Sound r
+  pub most : s ≤ 8
+  pub seen : Stepped w r good (h .inv) s (al .runs) t (doneAt r s t)
+  pub kinds : (i : ℕ) → In (doneAt r s t .to) i → kindAt r s t ≡ number (seen .κ)
+  pub outcome : eventOf r (Act s t) .outcome ≡ doneAt r s t .outcome
+  pub whole-run : eventOf r (Act s t) .run ≡ wholeAt r s t
+  pub part-run : (x : ℕ) → eventOf r (Cut s t x) .run ≡ partAt r s t x
+  -- the record of s before and after, and the others
+  pub here : recordOf (r .sites) s ≡ siteAt r s
+  pub new : recordOf (wholeAt r s t .sites) s ≡ doneAt r s t .site
+  pub still : (i : ℕ) → i ≢ s → recordOf (wholeAt r s t .sites) i ≡ recordOf (r .sites) i
+
 module _ (w : ℕ → Type 0) (r : Run) (h : Held w r) (s : ℕ) (t : Step) (al : Allowed r s t) where
-  pub sound : Sound r
-  sound = sound-parts r (h .shape) (al .sound)
+  abbrev d : Done
+  d = doneAt r s t
 
-  abbrev pub z : Record
-  z = siteAt r s
+  pub known : Known w r h s t al
+  unfolding acted cutShort sentBy stoppedAt answered
+  known =
+      record {
+        good = good;
+        most = most;
+        seen = seen;
+        kinds = λ i y. ap (λ (b : Bool). cond b 0 (d .kind)) (ne-eqb (d .to) 0 (λ e. in-none i (rw e at y))) ∙ seen .kind i y;
+        outcome = ap (λ (a : Ran). a .outcome) (al .whole) ∙ ap (λ a. a .outcome) step-is;
+        whole-run = ap (λ (a : Ran). a .run) (al .whole) ∙ ap (λ a. acted r s t a) step-is ∙ ap (λ (y : Run). sentBy (withRecord y s (d .site)) (kindAt r s t) s (d .to)) (delivered-net r s t);
+        part-run = λ x. ap (λ (a : Ran). a .run) (al .part x) ∙ ap (λ a. cutShort r s a x) step-is;
+        here = record-at r s (al .runs .least);
+        new = replaced (r .sites) s (d .site) (al .runs .least) (omega (arith, h .shape .sites, most));
+        still = others (r .sites) s (d .site) (al .runs .least);
+      }
+    where
+      good : Sound r
+      good = sound-parts r (h .shape) (al .sound)
 
-  pub s8 : s ≤ 8
-  s8 = omega (arith, al .runs .most, sound .most)
+      most : s ≤ 8
+      most = omega (arith, al .runs .most, good .most)
 
-  abbrev pub d : Done
-  d = ruleOf z t
+      step-is : stepOf (siteAt r s) t ≡ answered d
+      step-is = by-rule r good s t (al .runs) (al .names)
 
-  pub step-is : stepOf z t ≡ answered d
-  step-is = by-rule r sound s t (al .runs) (al .names)
+      seen : Stepped w r good (h .inv) s (al .runs) t d
+      seen = sure (d .outcome) (subst (λ a. Accepted (a .outcome)) step-is (al .accepted)) (steps w r good (h .inv) s (al .runs) t (al .names) (al .there))
 
-  -- the kind of what is written
-  abbrev pub K : ℕ
-  K = cond (eqb (d .to) 0) 0 (d .kind)
+  open Known known using (most, seen, kinds, outcome, whole-run, part-run)
 
-  pub ok : Accepted (d .outcome)
-  unfolding answered
-  ok = subst (λ a. Accepted (a .outcome)) step-is (al .accepted)
+  -- the run after the step is no more than the invariant allows for
+  pub whole-less : (w′ : ℕ → Type 0) → Less (viewOf w′ (wholeAt r s t)) (send (become (viewOf w r) s (d .site .state) (d .site .leader) (viewOf w′ r .voted)) (seen .κ) s (λ i. In (d .to) i))
+  whole-less w′ =
+      wholly-less w w′ r (h .shape) (delivered r s t .net) (delivered-len r s t (h .shape)) s (al .runs .least) most (d .site) (kindAt r s t) (minus (d .to) (r .stopped)) (seen .κ)
+      (λ i. In (d .to) i) (delivered-less r s t (h .shape)) (λ i y. let z = minus-in (d .to) (r .stopped) i y in (kinds i z, z)) (seen .holds .heard)
 
-  pub seen : Stepped w r sound (h .inv) s (al .runs) t d
-  seen = sure (d .outcome) ok (steps w r sound (h .inv) s (al .runs) t (al .names) (al .there))
-
-  pub kinds : (i : ℕ) → In (d .to) i → K ≡ number (seen .κ)
-  kinds i y = ap (λ (b : Bool). cond b 0 (d .kind)) (ne-eqb (d .to) 0 (λ e. in-none i (rw e at y))) ∙ seen .kind i y
-
-  pub outcome : eventOf r (Act s t) .outcome ≡ d .outcome
-  unfolding answered
-  outcome = ap (λ (a : Ran). a .outcome) (al .whole) ∙ ap (λ a. a .outcome) step-is
-
-  -- what the step leaves, whole and cut short
-  pub whole-run : eventOf r (Act s t) .run ≡ wholeRun r (delivered r s t .net) s (d .site) K (minus (d .to) (r .stopped))
-  unfolding acted sentBy answered
-  whole-run = ap (λ (a : Ran). a .run) (al .whole) ∙ ap (λ a. acted r s t a) step-is ∙ ap (λ (y : Run). sentBy (withRecord y s (d .site)) K s (d .to)) (delivered-net r s t)
-
-  pub part-run : (x : ℕ) → eventOf r (Cut s t x) .run ≡ partRun r s K (minus (both (d .to) x) (withSite (r .stopped) s))
-  unfolding cutShort sentBy stoppedAt answered
-  part-run x = ap (λ (a : Ran). a .run) (al .part x) ∙ ap (λ a. cutShort r s a x) step-is
+  pub part-less : (w′ : ℕ → Type 0) (x : ℕ) → Less (viewOf w′ (partAt r s t x)) (send (stop (viewOf w r) s (viewOf w′ r .voted)) (seen .κ) s (λ i. In (both (d .to) x) i))
+  part-less w′ x =
+      partly-less w w′ r (h .shape) s (al .runs .least) most (kindAt r s t) (leaving r s t x) (seen .κ) (λ i. In (both (d .to) x) i)
+      (λ i y. let z = minus-in (both (d .to) x) (withSite (r .stopped) s) i y in (kinds i (both-l (d .to) x i z), z))
 
   -- the votes
   module _ (v : ℕ → Type 0) (who : (i : ℕ) → v i → (i ≡ s) × Voices t × (eventOf r (Act s t) .outcome ≡ Taken)) where
@@ -195,9 +229,7 @@ module _ (w : ℕ → Type 0) (r : Run) (h : Held w r) (s : ℕ) (t : Step) (al 
       subst (Held (With w (Now r (Act s t)))) (sym whole-run)
       (record {
         shape = record { sites = length-set (r .sites) _ _ ∙ h .shape .sites; net = length-set (delivered r s t .net) _ _ ∙ delivered-len r s t (h .shape) };
-        inv = less _ _
-            (wholly-less w (With w (Now r (Act s t))) r (h .shape) (delivered r s t .net) (delivered-len r s t (h .shape)) s (al .runs .least) s8 (d .site) K (minus (d .to) (r .stopped)) (seen .κ)
-            (λ i. In (d .to) i) (delivered-less r s t (h .shape)) (λ i y. (kinds i (minus-in (d .to) (r .stopped) i y), minus-in (d .to) (r .stopped) i y)) (seen .holds .heard))
+        inv = less _ _ (whole-less (With w (Now r (Act s t))))
             (whole (viewOf w r) s (h .inv) (al .runs) _ (votes (Now r (Act s t)) (λ i. spoken)) _ _ (seen .κ) (seen .uses) (λ i. In (d .to) i) (λ i. In (d .to) i) (seen .act) (λ i y. y)
             (λ y p q. inr (speaks r s t (seen .votes .gives y .0) (outcome ∙ seen .votes .gives y .1))) (quiet (Now r (Act s t)) (λ i. spoken)));
       })
@@ -207,9 +239,7 @@ module _ (w : ℕ → Type 0) (r : Run) (h : Held w r) (s : ℕ) (t : Step) (al 
       subst (Held (With w (Now r (Cut s t x)))) (sym (part-run x))
       (record {
         shape = record { sites = h .shape .sites; net = simp (length-set, length-map) (h .shape .net) };
-        inv = less _ _
-            (partly-less w (With w (Now r (Cut s t x))) r (h .shape) s (al .runs .least) s8 K (minus (both (d .to) x) (withSite (r .stopped) s)) (seen .κ) (λ i. In (both (d .to) x) i)
-            (λ i y. (kinds i (both-l (d .to) x i (minus-in (both (d .to) x) (withSite (r .stopped) s) i y)), minus-in (both (d .to) x) (withSite (r .stopped) s) i y)))
+        inv = less _ _ (part-less (With w (Now r (Cut s t x))) x)
             (cut (viewOf w r) s (h .inv) (al .runs) _ (votes (Now r (Cut s t x)) (λ i. spoken-cut)) _ _ (seen .κ) (seen .uses) (λ i. In (d .to) i) (λ i. In (both (d .to) x) i) (seen .act)
             (λ i y. both-l (d .to) x i y) left (λ o. quiet (Now r (Cut s t x)) (λ i. spoken-cut) (order-gives (seen .κ) o)));
       })

@@ -7,33 +7,30 @@ use mathlib.Core.Logic.{_≢_, _⊎_, inl, inr, ⊎-elim}
 use native.Mathlib.Decide.{ℕ-discrete}
 use native.Mathlib.Omega.{arith}
 use lib.ListN.{length, length-map}
-use Rattle.sets.specs.Sets.{both, minus, withSite}
+use Rattle.sets.specs.Sets.{minus}
 use Rattle.site.specs.declared.State.the-variants.{Q}
 use Rattle.site.specs.declared.Step.{Step}
 use Rattle.site.specs.declared.Step.the-variants as step
 use Rattle.site.specs.declared.Site.{Site as Record}
 use Rattle.site.specs.declared.Done.{Done}
-use Rattle.site.specs.Step.{ruleOf}
 use Rattle.run.specs.declared.Run.{Run}
 use Rattle.run.specs.declared.Event.{Event}
 use Rattle.run.specs.declared.Event.the-variants.{Act, Stop, Cut}
 use Rattle.run.specs.declared.Ran.{Ran}
-use Rattle.run.specs.Run.{siteAt, takenOut, stoppedAt, freshRun}
+use Rattle.run.specs.Run.{takenOut, stoppedAt, freshRun}
 use Rattle.run.specs.Event.{refusedRun, delivered, eventOf}
 use Rattle.run.specs.After.{Tale, onward, told, opening, after}
-use Rattle.promise.specs.SetsMembers.{In, minus-in, in-minus, both-l}
+use Rattle.promise.specs.SetsMembers.{In, in-minus}
 use Rattle.run.specs.Views.{Shape}
-use Rattle.promise.specs.RunViews.{recordOf, record-at, replaced, others, Runs, Out, stoppedNet, takenNet, sent-cases, sent-old, sent-new, taken-old, taken-gone, stopped-old}
-use Rattle.run.specs.Sound.{Sound}
+use Rattle.promise.specs.RunViews.{recordOf, Runs, Out, stoppedNet, takenNet, sent-cases, sent-old, sent-new, taken-old, taken-gone, stopped-old}
 use Rattle.run.specs.SoundLaws.{sound-parts}
 use Rattle.promise.specs.RunEvents.{Allowed, Halted, decide, decide-stop}
 use Rattle.promise.specs.Classes.{Kind, Start, Yes, No, MoveP, MoveW, Ack, Commit, Abort}
 use Rattle.promise.specs.Does.{message}
 use Rattle.promise.specs.Owed.{Owed, After, owed-stopped, owed-step}
-use Rattle.promise.specs.Seen.{number, Recorded, viewOf, wholeRun, wholly-less, still-runs, stopped-view, partRun, partly-less}
+use Rattle.promise.specs.Seen.{number, Recorded, viewOf, still-runs, stopped-view}
 use Rattle.promise.specs.Brings.{Delivers}
-use Rattle.promise.specs.Stepping.{Stepped}
-use Rattle.promise.specs.Keeping.{Held, delivered-len, delivered-less, sound, s8, K, seen, kinds, whole-run, part-run, Now, With, keeps}
+use Rattle.promise.specs.Keeping.{Held, delivered-len, doneAt, kindAt, wholeAt, leaving, partAt, Known, known, whole-less, part-less, Now, With, keeps}
 use Rattle.promise.specs.Fresh.{nothing, each-fresh, no-live, fresh-held, fresh-is}
 
 -- a message stays where it is, or is the one delivered
@@ -69,33 +66,17 @@ kind-in Abort = (omega arith, omega arith)
 -- ---- a step of site s
 
 module _ (w : ℕ → Type 0) (r : Run) (h : Held w r) (s : ℕ) (t : Step) (al : Allowed r s t) where
-  good : Sound r
-  good = sound w r h s t al
-
-  most : s ≤ 8
-  most = s8 w r h s t al
-
-  -- the kind of what is written
-  abbrev kind : ℕ
-  kind = K w r h s t al
+  open Known (known w r h s t al) using (most, seen as y, kinds, whole-run, part-run, here, new, still)
 
   abbrev d : Done
-  d = ruleOf (siteAt r s) t
+  d = doneAt r s t
 
-  abbrev y : Stepped w r (sound w r h s t al) (h .inv) s (al .runs) t d
-  y = seen w r h s t al
+  -- the kind of what is written, and the run after the whole step
+  abbrev kind : ℕ
+  kind = kindAt r s t
 
   abbrev q : Run
-  q = wholeRun r (delivered r s t .net) s (d .site) kind (minus (d .to) (r .stopped))
-
-  here : recordOf (r .sites) s ≡ siteAt r s
-  here = record-at r s (al .runs .least)
-
-  new : recordOf (q .sites) s ≡ d .site
-  new = replaced (r .sites) s (d .site) (al .runs .least) (omega (arith, h .shape .sites, most))
-
-  still : (i : ℕ) → i ≢ s → recordOf (q .sites) i ≡ recordOf (r .sites) i
-  still = others (r .sites) s (d .site) (al .runs .least)
+  q = wholeAt r s t
 
   abbrev net : List ℕ
   net = delivered r s t .net
@@ -120,7 +101,7 @@ module _ (w : ℕ → Type 0) (r : Run) (h : Held w r) (s : ℕ) (t : Step) (al 
 
   come : (i : ℕ) → Runs q i → In (d .to) i → viewOf w q .live (y .κ) s i
   come i x z =
-      let e : kind ≡ number (y .κ) = kinds w r h s t al i z in
+      let e : kind ≡ number (y .κ) = kinds i z in
       let n = kind-in (y .κ) in
       inl (subst (λ (C : ℕ). Out (q .net) C s i) e
       (sent-new net kind s (minus (d .to) (r .stopped)) len
@@ -141,36 +122,25 @@ module _ (w : ℕ → Type 0) (r : Run) (h : Held w r) (s : ℕ) (t : Step) (al 
         ld-other = λ i ne. ap (λ (a : Record). a .leader) (still i ne);
         stay = stay;
         come = come;
-        only = λ k i x. ⊎-elim (λ z. inl z) (λ z. inr (z .0, z .1))
-            (wholly-less w w r (h .shape) net len s (al .runs .least) most (d .site) kind (minus (d .to) (r .stopped)) (y .κ) (λ i. In (d .to) i)
-            (delivered-less r s t (h .shape)) (λ i z. (kinds w r h s t al i (minus-in (d .to) (r .stopped) i z), minus-in (d .to) (r .stopped) i z)) (y .holds .heard) .live Start k i x);
+        only = λ k i x. ⊎-elim (λ z. inl z) (λ z. inr (z .0, z .1)) (whole-less w r h s t al w .live Start k i x);
         gone = gone;
       }
 
   pub whole-owed : Owed (viewOf w r) → Owed (viewOf w (eventOf r (Act s t) .run))
   whole-owed o =
-      subst (λ (a : Run). Owed (viewOf w a)) (sym (whole-run w r h s t al))
+      subst (λ (a : Run). Owed (viewOf w a)) (sym whole-run)
       (owed-step (viewOf w r) s (λ i. In (d .to) i) (h .inv) (al .runs) (viewOf w q) (d .site .state) (d .site .leader) (y .κ) (y .uses) after-whole (y .act) o)
-
-  -- what of its messages leaves, where it stops inside the step
-  abbrev m : ℕ → ℕ
-  m x = minus (both (d .to) x) (withSite (r .stopped) s)
-
-  abbrev p : ℕ → Run
-  p x = partRun r s kind (m x)
 
   pub part-owed : (x : ℕ) → Owed (viewOf w r) → Owed (viewOf w (eventOf r (Cut s t x) .run))
   part-owed x o =
-      subst (λ (a : Run). Owed (viewOf w a)) (sym (part-run w r h s t al x))
-      (owed-stopped (viewOf w r) (viewOf w (p x)) s
+      subst (λ (a : Run). Owed (viewOf w a)) (sym (part-run x))
+      (owed-stopped (viewOf w r) (viewOf w (partAt r s t x)) s
       (record {
-        runs = λ i. still-runs r s most i (p x .net);
+        runs = λ i. still-runs r s most i (partAt r s t x .net);
         st = λ i. refl;
         ld = λ i. refl;
-        stay = λ c k i ne. ⊎-elim (λ z. inl (sent-old (stoppedNet (r .net) s) kind s (m x) (length-map (r .net) _ ∙ h .shape .net) (number c) k i (stopped-old (r .net) s (number c) k i z ne))) (λ z. inr z);
-        only = λ k i ne z. ⊎-elim (λ u. u) (λ u. absurd (ne (sym (u .1))))
-            (partly-less w w r (h .shape) s (al .runs .least) most kind (m x) (y .κ) (λ i. In (both (d .to) x) i)
-            (λ i z. (kinds w r h s t al i (both-l (d .to) x i (minus-in (both (d .to) x) (withSite (r .stopped) s) i z)), minus-in (both (d .to) x) (withSite (r .stopped) s) i z)) .live Start k i z);
+        stay = λ c k i ne. ⊎-elim (λ z. inl (sent-old (stoppedNet (r .net) s) kind s (leaving r s t x) (length-map (r .net) _ ∙ h .shape .net) (number c) k i (stopped-old (r .net) s (number c) k i z ne))) (λ z. inr z);
+        only = λ k i ne z. ⊎-elim (λ u. u) (λ u. absurd (ne (sym (u .1)))) (part-less w r h s t al w x .live Start k i z);
       }) o)
 
 -- ---- every event
