@@ -28,7 +28,7 @@ use Rattle.run.specs.Sound.{Sound, soundRun}
 use Rattle.run.specs.Event.{refusedRun, isThere, delivered, acted, cutShort, eventOf}
 use Rattle.promise.specs.SetsMembers.{In, in-none, minus-in, both-l, both-r}
 use Rattle.run.specs.Views.{Shape, delivered-net}
-use Rattle.promise.specs.RunViews.{recordOf, record-at, replaced, others, Runs, Out, taken-less}
+use Rattle.promise.specs.RunViews.{recordOf, record-at, replaced, others, Runs, Out, takenNet, taken-less}
 use Rattle.run.specs.SoundLaws.{sound-parts}
 use Rattle.promise.specs.RunEvents.{Accepted, Allowed, Denied, Halted, decide, decide-stop}
 use Rattle.promise.specs.Classes.{IsYes, Gives, IsQ, order-gives, yes-gives}
@@ -38,7 +38,7 @@ use Rattle.promise.specs.Become.{become}
 use Rattle.promise.specs.Send.{send}
 use Rattle.promise.specs.Safety.{whole, cut}
 use Rattle.promise.specs.Seen.{number, viewOf, wholeRun, wholly-less, stopped-view, partRun, partly-less}
-use Rattle.promise.specs.Brings.{Voices, Starts}
+use Rattle.promise.specs.Brings.{Delivers, Voices, Starts}
 use Rattle.promise.specs.Stepping.{Sure, Stepped, steps}
 use Rattle.promise.specs.Words.{Voted, begins, answers, leaves, later}
 
@@ -101,24 +101,23 @@ sure Taken h x = x
 sure Passed h x = x
 sure (Refused g) h x = absurd h
 
--- a delivery leaves fewer messages
-pub delivered-len : (r : Run) (s : ℕ) (t : Step) → Shape r → length (delivered r s t .net) ≡ 72
+-- a step takes nothing out of the network, or the one message that it delivers: what holds in both cases, of the network and of what is delivered, holds
+pub by-delivery : (M : List ℕ → (ℕ → ℕ → Type 0) → Type 0) (r : Run) (s : ℕ) (t : Step) → M (r .net) (λ K k. ⊥) → ((c f : ℕ) → M (takenNet (r .net) c f s) (λ K k. (c ≡ K) × (f ≡ k)))
+    → M (delivered r s t .net) (Delivers t)
 unfolding takenOut
-delivered-len r s (step.Begin v) h = h .net
-delivered-len r s (step.Start k v) h = length-set (r .net) _ _ ∙ h .net
-delivered-len r s (step.Deliver K k) h = length-set (r .net) _ _ ∙ h .net
-delivered-len r s (step.Notice o) h = h .net
-delivered-len r s step.TakeOver h = h .net
-delivered-len r s step.Conclude h = h .net
+by-delivery M r s (step.Begin v) none one = none
+by-delivery M r s (step.Start f v) none one = one 1 f
+by-delivery M r s (step.Deliver c f) none one = one c f
+by-delivery M r s (step.Notice o) none one = none
+by-delivery M r s step.TakeOver none one = none
+by-delivery M r s step.Conclude none one = none
+
+-- so it leaves fewer messages
+pub delivered-len : (r : Run) (s : ℕ) (t : Step) → Shape r → length (delivered r s t .net) ≡ 72
+delivered-len r s t h = by-delivery (λ net _. length net ≡ 72) r s t (h .net) (λ c f. length-set (r .net) _ _ ∙ h .net)
 
 pub delivered-less : (r : Run) (s : ℕ) (t : Step) → Shape r → (K k i : ℕ) → Out (delivered r s t .net) K k i → Out (r .net) K k i
-unfolding takenOut
-delivered-less r s (step.Begin v) h K k i m = m
-delivered-less r s (step.Start f v) h K k i m = taken-less (r .net) 1 f s (h .net) K k i m
-delivered-less r s (step.Deliver c f) h K k i m = taken-less (r .net) c f s (h .net) K k i m
-delivered-less r s (step.Notice o) h K k i m = m
-delivered-less r s step.TakeOver h K k i m = m
-delivered-less r s step.Conclude h K k i m = m
+delivered-less r s t h = by-delivery (λ net _. (K k i : ℕ) → Out net K k i → Out (r .net) K k i) r s t (λ K k i m. m) (λ c f. taken-less (r .net) c f s (h .net))
 
 -- a step of a site of a sound run, with the right names, goes by its rule
 pub by-rule : (r : Run) (g : Sound r) (s : ℕ) (t : Step) → Runs r s → namesOf (siteAt r s) t ≡ true → stepOf (siteAt r s) t ≡ answered (ruleOf (siteAt r s) t)

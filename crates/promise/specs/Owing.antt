@@ -10,14 +10,13 @@ use lib.ListN.{length, length-map}
 use Rattle.sets.specs.Sets.{minus}
 use Rattle.site.specs.declared.State.the-variants.{Q}
 use Rattle.site.specs.declared.Step.{Step}
-use Rattle.site.specs.declared.Step.the-variants as step
 use Rattle.site.specs.declared.Site.{Site as Record}
 use Rattle.site.specs.declared.Done.{Done}
 use Rattle.run.specs.declared.Run.{Run}
 use Rattle.run.specs.declared.Event.{Event}
 use Rattle.run.specs.declared.Event.the-variants.{Act, Stop, Cut}
 use Rattle.run.specs.declared.Ran.{Ran}
-use Rattle.run.specs.Run.{takenOut, stoppedAt, freshRun}
+use Rattle.run.specs.Run.{stoppedAt, freshRun}
 use Rattle.run.specs.Event.{refusedRun, delivered, eventOf}
 use Rattle.run.specs.After.{Tale, onward, told, opening, after}
 use Rattle.promise.specs.SetsMembers.{In, in-minus}
@@ -30,28 +29,20 @@ use Rattle.promise.specs.Does.{message}
 use Rattle.promise.specs.Owed.{Owed, After, owed-stopped, owed-step}
 use Rattle.promise.specs.Seen.{number, Recorded, viewOf, still-runs, stopped-view}
 use Rattle.promise.specs.Brings.{Delivers}
-use Rattle.promise.specs.Keeping.{Held, delivered-len, doneAt, kindAt, wholeAt, leaving, partAt, Known, known, whole-less, part-less, Now, With, keeps}
+use Rattle.promise.specs.Keeping.{Held, by-delivery, delivered-len, doneAt, kindAt, wholeAt, leaving, partAt, Known, known, whole-less, part-less, Now, With, keeps}
 use Rattle.promise.specs.Fresh.{nothing, each-fresh, no-live, fresh-held, fresh-is}
 
 -- a message stays where it is, or is the one delivered
 delivered-old : (r : Run) (s : ℕ) (t : Step) → Shape r → (C k i : ℕ) → Out (r .net) C k i → Out (delivered r s t .net) C k i ⊎ ((i ≡ s) × Delivers t C k)
-unfolding takenOut
-delivered-old r s (step.Begin v) h C k i x = inl x
-delivered-old r s (step.Start f v) h C k i x = ⊎-elim (λ y. inl y) (λ y. inr (y .2, (y .0, y .1))) (taken-old (r .net) 1 f s (h .net) C k i x)
-delivered-old r s (step.Deliver c f) h C k i x = ⊎-elim (λ y. inl y) (λ y. inr (y .2, (y .0, y .1))) (taken-old (r .net) c f s (h .net) C k i x)
-delivered-old r s (step.Notice o) h C k i x = inl x
-delivered-old r s step.TakeOver h C k i x = inl x
-delivered-old r s step.Conclude h C k i x = inl x
+delivered-old r s t h =
+    by-delivery (λ net D. (C k i : ℕ) → Out (r .net) C k i → Out net C k i ⊎ ((i ≡ s) × D C k)) r s t (λ C k i x. inl x)
+    (λ c f C k i x. ⊎-elim (λ y. inl y) (λ y. inr (y .2, (y .0, y .1))) (taken-old (r .net) c f s (h .net) C k i x))
 
 -- the one delivered is gone
 delivered-gone : (r : Run) (s : ℕ) (t : Step) → Shape r → (C k : ℕ) → Delivers t C k → Out (delivered r s t .net) C k s → ⊥
-unfolding takenOut
-delivered-gone r s (step.Begin v) h C k d x = d
-delivered-gone r s (step.Start f v) h C k d x = taken-gone (r .net) 1 f s (h .net) (subst (λ (k : ℕ). Out (takenNet (r .net) 1 f s) 1 k s) (sym (d .1)) (subst (λ (C : ℕ). Out (takenNet (r .net) 1 f s) C k s) (sym (d .0)) x))
-delivered-gone r s (step.Deliver c f) h C k d x = taken-gone (r .net) c f s (h .net) (subst (λ (k : ℕ). Out (takenNet (r .net) c f s) c k s) (sym (d .1)) (subst (λ (C : ℕ). Out (takenNet (r .net) c f s) C k s) (sym (d .0)) x))
-delivered-gone r s (step.Notice o) h C k d x = d
-delivered-gone r s step.TakeOver h C k d x = d
-delivered-gone r s step.Conclude h C k d x = d
+delivered-gone r s t h =
+    by-delivery (λ net D. (C k : ℕ) → D C k → Out net C k s → ⊥) r s t (λ C k d x. d)
+    (λ c f C k d x. taken-gone (r .net) c f s (h .net) (subst (λ (k : ℕ). Out (takenNet (r .net) c f s) c k s) (sym (d .1)) (subst (λ (C : ℕ). Out (takenNet (r .net) c f s) C k s) (sym (d .0)) x)))
 
 kind-in : (κ : Kind) → (1 ≤ number κ) × (number κ ≤ 9)
 kind-in Start = (omega arith, omega arith)
