@@ -1,7 +1,7 @@
 -- Every accepted event lowers the potential, so that only so many events are accepted.
 -- Assumes nothing.
 use Prim.Native.Nat.{ℕ, _+_, _-_, _*_, _/_, _^_, _≤_}
-use mathlib.Core.Bool.{Bool, true, false, not, _&&_}
+use mathlib.Core.Bool.{true, not, _&&_}
 use mathlib.Core.List.{List, [], _∷_}
 use mathlib.Core.Path.{_≡_, refl, sym, ap, subst, _∙_}
 use mathlib.Core.Logic.{_≢_, _⊎_, inl, inr, ⊎-elim}
@@ -25,7 +25,7 @@ use Rattle.run.specs.declared.Event.the-variants.{Act, Stop, Cut}
 use Rattle.run.specs.Run.{siteAt, outstanding, hasStopped, knows, takenOut, stoppedAt}
 use Rattle.run.specs.Event.{isThere, delivered, eventOf}
 use Rattle.run.specs.After.{Tale, acceptedBy, onward, told, opening, after}
-use Rattle.sets.specs.Truths.{and-l, and-r}
+use Rattle.sets.specs.Truths.{and-l, and-r, same as alike}
 use Rattle.promise.specs.SetsMembers.{In, minus-in, both-l, in-with, with-in, in-with-new}
 use Rattle.promise.specs.RunViews.{recordOf, Runs, stoppedNet}
 use Rattle.run.specs.SoundLaws.{sound-parts}
@@ -81,12 +81,7 @@ module _ (r : Run) (s : ℕ) (x : Runs r s) (n8 : r .n ≤ 8) (net : List ℕ) w
       )
     where
       same : (i : ℕ) → i ≢ s → has (withSite (r .stopped) s) i ≡ has (r .stopped) i
-      same i ne = go (has (r .stopped) i) (has (withSite (r .stopped) s) i) (in-with (r .stopped) s i) (λ h. ⊎-elim (λ y. y) (λ e. absurd (ne e)) (with-in (r .stopped) s i h))
-        where
-          go : (a b : Bool) → (a ≡ true → b ≡ true) → (b ≡ true → a ≡ true) → b ≡ a
-          go true b f g = f refl
-          go false true f g = sym (g refl)
-          go false false f g = refl
+      same i ne = alike _ _ (λ h. ⊎-elim (λ y. y) (λ e. absurd (ne e)) (with-in (r .stopped) s i h)) (in-with (r .stopped) s i)
 
   pairs-gone : pairs gone ≤ pairs r
   pairs-gone = pairs-le r gone refl (in-with (r .stopped) s) (λ i j y. y)
@@ -153,13 +148,16 @@ module _ (w : ℕ → Type 0) (r : Run) (h : Held w r) (s : ℕ) (t : Step) (al 
       go (no ne) = subst (λ (a : Record). In (a .known) k) (sym (still i ne)) x
       go (yes e) = subst (λ (i : ℕ). In (recordOf (q .sites) i .known) k) (sym e) (subst (λ (a : Record). In (a .known) k) (sym new) (y .holds .knows k (subst (λ (a : Record). In (a .known) k) here (rw e at x))))
 
+  none-rises : pairs q ≤ pairs r
+  none-rises = pairs-le r q refl (λ i x. x) more
+
   -- a notice is news
   news : (u : Step) → u ≡ t → pairs q + newsWorth u ≤ pairs r
-  news (step.Begin v) e = omega (arith, pairs-le r q refl (λ i x. x) more)
-  news (step.Start from v) e = omega (arith, pairs-le r q refl (λ i x. x) more)
-  news (step.Deliver k from) e = omega (arith, pairs-le r q refl (λ i x. x) more)
-  news step.TakeOver e = omega (arith, pairs-le r q refl (λ i x. x) more)
-  news step.Conclude e = omega (arith, pairs-le r q refl (λ i x. x) more)
+  news (step.Begin v) e = omega (arith, none-rises)
+  news (step.Start from v) e = omega (arith, none-rises)
+  news (step.Deliver k from) e = omega (arith, none-rises)
+  news step.TakeOver e = omega (arith, none-rises)
+  news step.Conclude e = omega (arith, none-rises)
   news (step.Notice o) e =
       pairs-learn r q refl (λ i x. x) more s o (al .runs .least) (al .runs .most) (noticed .0) (noticed .1) other (al .runs .up) (and-l (has (r .stopped) o) (not (has (z .known) o)) there)
       (ap (λ (a : Record). has (a .known) o) here ∙ not-true (has (z .known) o) (and-r (has (r .stopped) o) (not (has (z .known) o)) there))
