@@ -203,37 +203,36 @@ module _ (w : ℕ → Type 0) (r : Run) (g : Sound r) (u : Inv (viewOf w r)) (j 
   abbrev M : Step → Done → Type 0
   M t d = Sure (d .outcome) (Stepped t d)
 
+  -- a step of j's own brings nothing, and writes to all others
+  own-step : (t : Step) (κ : Kind) (y : Record) → ((K i : ℕ) → Delivers t K i → ⊥) → ((o : ℕ) → Notices t o → ⊥) → Does a j (λ i. In (toAll s) i) (y .state) (y .leader) κ nothing
+      → Holds y → Votes t (taken y (number κ) (toAll s)) κ → Stepped t (taken y (number κ) (toAll s))
+  own-step t κ y m n c h v =
+      record {
+        κ = κ;
+        uses = nothing;
+        act = c;
+        kind = λ i h. refl;
+        within = λ i h. others-all i h .0;
+        holds = h;
+        spends = record { used = λ c i h. absurd (m (number c) i h); brought = λ c i h. absurd (subst IsMessage (sym h) tt); fee = omega arith; learns = λ o h. absurd (n o h) };
+        votes = v;
+      }
+
   -- ---- Begin
 
-  begun-is : (v : Vote) → s .number ≡ 1 → s .state ≡ Q → M (step.Begin v) (begun v s)
+  begun-is : (v : Vote) → j ≡ 1 → a .st j ≡ Q → M (step.Begin v) (begun v s)
   begun-is vote.Yes n q =
-      record {
-        κ = Start;
-        uses = nothing;
-        act = same-l (does.begin-yes (sym mine ∙ n) (st-is ∙ q) (leads-itself (sym mine ∙ n)) (everyone (none-below (sym mine ∙ n))));
-        kind = λ i h. refl;
-        within = λ i h. others-all i h .0;
-        holds = holds-same W (s .leader);
-        spends = record { used = λ c i h. absurd h; brought = λ c i h. subst IsMessage (sym h) tt; fee = omega arith; learns = λ o h. absurd h };
-        votes = record { gives = λ _. (tt, refl); voices = λ _ _. (tt, rw (st-is ∙ q) tt); leaves = λ h. absurd h };
-      }
+      own-step (step.Begin vote.Yes) Start (inState s W) (λ K i h. h) (λ o h. h) (same-l (does.begin-yes n q (leads-itself n) (everyone (none-below n)))) (holds-same W (s .leader))
+      (record { gives = λ _. (tt, refl); voices = λ _ _. (tt, rw q tt); leaves = λ h. absurd h })
   begun-is vote.No n q =
-      record {
-        κ = Abort;
-        uses = nothing;
-        act = same-l (does.begin-no (sym mine ∙ n) (st-is ∙ q) (leads-itself (sym mine ∙ n)) (everyone (none-below (sym mine ∙ n))));
-        kind = λ i h. refl;
-        within = λ i h. others-all i h .0;
-        holds = holds-same A (s .leader);
-        spends = record { used = λ c i h. absurd h; brought = λ c i h. subst IsMessage (sym h) tt; fee = omega arith; learns = λ o h. absurd h };
-        votes = mute (step.Begin vote.No) (begun vote.No s) Abort (λ h. h) (λ h. absurd h);
-      }
+      own-step (step.Begin vote.No) Abort (inState s A) (λ K i h. h) (λ o h. h) (same-l (does.begin-no n q (leads-itself n) (everyone (none-below n)))) (holds-same A (s .leader))
+      (mute (step.Begin vote.No) (begun vote.No s) Abort (λ h. h) (λ h. absurd h))
 
   begins : (v : Vote) → M (step.Begin v) (beginOf s v)
   unfolding beginOf
   begins v =
       by-cond (M (step.Begin v)) (eqb (s .number) 1 && isQ (s .state)) (begun v s) (refused s 5)
-      (λ e. begun-is v (eqb-true (s .number) 1 (and-l (eqb (s .number) 1) (isQ (s .state)) e)) (is-q (s .state) (and-r (eqb (s .number) 1) (isQ (s .state)) e)))
+      (λ e. begun-is v (sym mine ∙ eqb-true (s .number) 1 (and-l (eqb (s .number) 1) (isQ (s .state)) e)) (st-is ∙ is-q (s .state) (and-r (eqb (s .number) 1) (isQ (s .state)) e)))
       (λ _. omega arith)
 
   -- a step that changes neither state nor leader and writes nothing
@@ -282,38 +281,36 @@ module _ (w : ℕ → Type 0) (r : Run) (g : Sound r) (u : Inv (viewOf w r)) (j 
     not-first : j ≢ 1
     not-first e = omega (arith, start-ends .1)
 
-    voted-is : (v : Vote) → s .leader ≤ from → s .state ≡ Q → M (step.Start from v) (voted v s)
+    brings-start : (v : Vote) (d : Done) → Spends (step.Start from v) d (message Start from)
+    brings-start v d = record { used = λ c i h. inl (same-message (same-kind Start c (h .0)) (h .1)); brought = λ c i h. (ap (λ (y : Uses). number (kindIn y)) h, ap senderIn h); fee = omega arith; learns = λ o h. absurd h }
+
+    -- the answer to a Start
+    answers : (v : Vote) (κ : Kind) (q : State) → Does a j (λ i. In (weightOf 1) i) q (a .ld j) κ (message Start 1) → Votes (step.Start from v) (taken (inState s q) (number κ) (weightOf 1)) κ
+        → Stepped (step.Start from v) (taken (inState s q) (number κ) (weightOf 1))
+    answers v κ q c o =
+        record {
+          κ = κ;
+          uses = message Start 1;
+          act = same-l c;
+          kind = λ i h. refl;
+          within = λ i h. rw (weight-in 1 i h) (omega (arith, g .least));
+          holds = holds-same q (s .leader);
+          spends = subst (λ (k : ℕ). Spends (step.Start from v) (taken (inState s q) (number κ) (weightOf 1)) (message Start k)) (start-ends .0) (brings-start v _);
+          votes = o;
+        }
+
+    voted-is : (v : Vote) → a .ld j ≤ 1 → a .st j ≡ Q → M (step.Start from v) (voted v s)
     voted-is vote.Yes l q =
-        record {
-          κ = Yes;
-          uses = message Start 1;
-          act = same-l (does.start-yes (omega (arith, ld-is, start-ends .0)) not-first (st-is ∙ q) first-start to-first);
-          kind = λ i h. refl;
-          within = λ i h. rw (weight-in 1 i h) (omega (arith, g .least));
-          holds = holds-same W (s .leader);
-          spends = record { used = λ c i h. inl (same-message (same-kind Start c (h .0)) (sym (start-ends .0) ∙ h .1)); brought = λ c i h. (ap (λ (y : Uses). number (kindIn y)) h, start-ends .0 ∙ ap senderIn h); fee = omega arith; learns = λ o h. absurd h };
-          votes = record { gives = λ _. (tt, refl); voices = λ _ _. (tt, rw (st-is ∙ q) tt); leaves = λ _ i h. (tt, weight-in 1 i h) };
-        }
-    voted-is vote.No l q =
-        record {
-          κ = No;
-          uses = message Start 1;
-          act = same-l (does.start-no (omega (arith, ld-is, start-ends .0)) not-first (st-is ∙ q) first-start to-first);
-          kind = λ i h. refl;
-          within = λ i h. rw (weight-in 1 i h) (omega (arith, g .least));
-          holds = holds-same A (s .leader);
-          spends = record { used = λ c i h. inl (same-message (same-kind Start c (h .0)) (sym (start-ends .0) ∙ h .1)); brought = λ c i h. (ap (λ (y : Uses). number (kindIn y)) h, start-ends .0 ∙ ap senderIn h); fee = omega arith; learns = λ o h. absurd h };
-          votes = mute (step.Start from vote.No) (voted vote.No s) No (λ h. h) (λ h. absurd h);
-        }
+        answers vote.Yes Yes W (does.start-yes l not-first q first-start to-first) (record { gives = λ _. (tt, refl); voices = λ _ _. (tt, rw q tt); leaves = λ _ i h. (tt, weight-in 1 i h) })
+    voted-is vote.No l q = answers vote.No No A (does.start-no l not-first q first-start to-first) (mute (step.Start from vote.No) (voted vote.No s) No (λ h. h) (λ h. absurd h))
 
     starts : (v : Vote) → M (step.Start from v) (startOf s from v)
     unfolding startOf
     starts v =
         by-cond (M (step.Start from v)) (not (ltb from (s .leader)) && isQ (s .state)) (voted v s) (passed s)
-        (λ e. voted-is v (ltb-false from (s .leader) (not-true (ltb from (s .leader)) (and-l (not (ltb from (s .leader))) (isQ (s .state)) e)))
-        (is-q (s .state) (and-r (not (ltb from (s .leader))) (isQ (s .state)) e)))
-        (λ e. quietly (step.Start from v) (passed s) (message Start from) (same-sl (does.passed (idle e) in-none)) in-none (holds-same (s .state) (s .leader))
-        (record { used = λ c i h. inl (same-message (same-kind Start c (h .0)) (h .1)); brought = λ c i h. (ap (λ (y : Uses). number (kindIn y)) h, ap senderIn h); fee = omega arith; learns = λ o h. absurd h }) (λ _. no-pass))
+        (λ e. voted-is v (omega (arith, ld-is, start-ends .0, ltb-false from (s .leader) (not-true (ltb from (s .leader)) (and-l (not (ltb from (s .leader))) (isQ (s .state)) e))))
+        (st-is ∙ is-q (s .state) (and-r (not (ltb from (s .leader))) (isQ (s .state)) e)))
+        (λ e. quietly (step.Start from v) (passed s) (message Start from) (same-sl (does.passed (idle e) in-none)) in-none (holds-same (s .state) (s .leader)) (brings-start v _) (λ _. no-pass))
       where
         idle : (not (ltb from (s .leader)) && isQ (s .state)) ≡ false → (from < a .ld j) ⊎ (IsQ (a .st j) → ⊥)
         idle e =
@@ -573,16 +570,9 @@ module _ (w : ℕ → Type 0) (r : Run) (g : Sound r) (u : Inv (viewOf w r)) (j 
     takes : (κ : Kind) (q : State) (y : Record) → y .state ≡ q → y .leader ≡ s .number → Holds y → (Gives κ → ⊥)
         → Does a j (λ i. In (toAll s) i) q j κ nothing → Stepped step.TakeOver (taken y (number κ) (toAll s))
     takes κ q y e f h n c =
-        record {
-          κ = κ;
-          uses = nothing;
-          act = subst (λ (q : State). Does a j (λ i. In (toAll s) i) q (y .leader) κ nothing) (sym e) (subst (λ (l : ℕ). Does a j (λ i. In (toAll s) i) q l κ nothing) (sym (f ∙ mine)) c);
-          kind = λ i h. refl;
-          within = λ i h. others-all i h .0;
-          holds = h;
-          spends = record { used = λ c i h. absurd h; brought = λ c i h. subst IsMessage (sym h) tt; fee = omega arith; learns = λ o h. absurd h };
-          votes = mute step.TakeOver _ κ n (λ h. absurd h);
-        }
+        own-step step.TakeOver κ y (λ K i h. h) (λ o h. h)
+        (subst (λ (q : State). Does a j (λ i. In (toAll s) i) q (y .leader) κ nothing) (sym e) (subst (λ (l : ℕ). Does a j (λ i. In (toAll s) i) q l κ nothing) (sym (f ∙ mine)) c)) h
+        (mute step.TakeOver _ κ n (λ h. absurd h))
 
     over-in : (q : State) → s .state ≡ q → M step.TakeOver (overIn q s)
     over-in Q e = takes Abort A _ refl refl (cleared _ refl refl refl refl) (λ h. h) (does.over-q after-first follows-lower lone (st-is ∙ e) (everyone low))
@@ -603,17 +593,7 @@ module _ (w : ℕ → Type 0) (r : Run) (g : Sound r) (u : Inv (viewOf w r)) (j 
   -- ---- Conclude
 
   concluding : (κ : Kind) (q : State) → (Gives κ → ⊥) → Does a j (λ i. In (toAll s) i) q (a .ld j) κ nothing → Stepped step.Conclude (taken (inState s q) (number κ) (toAll s))
-  concluding κ q n c =
-      record {
-        κ = κ;
-        uses = nothing;
-        act = same-l c;
-        kind = λ i h. refl;
-        within = λ i h. others-all i h .0;
-        holds = holds-same q (s .leader);
-        spends = record { used = λ c i h. absurd h; brought = λ c i h. subst IsMessage (sym h) tt; fee = omega arith; learns = λ o h. absurd h };
-        votes = mute step.Conclude _ κ n (λ h. absurd h);
-      }
+  concluding κ q n c = own-step step.Conclude κ (inState s q) (λ K i h. h) (λ o h. h) (same-l c) (holds-same q (s .leader)) (mute step.Conclude _ κ n (λ h. absurd h))
 
   tallies : polls s ≡ true → M step.Conclude (tallyOf s)
   unfolding polls tallyOf
