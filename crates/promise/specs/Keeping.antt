@@ -266,16 +266,8 @@ module _ (w : ℕ → Type 0) (r : Run) (h : Held w r) where
   denied : (e : Event) (g : ℕ) → eventOf r e ≡ refusedRun r g → ((i : ℕ) → Now r e i → ⊥) → Held (With w (Now r e)) (eventOf r e .run)
   denied e g q n = subst (Held (With w (Now r e))) (sym (ap (λ (a : Ran). a .run) q)) (revote w (With w (Now r e)) r (λ i y. inl y) (λ i. ⊎-elim (λ y. y) (λ y. absurd (n i y))) h)
 
-  refused-taken : (g : ℕ) → Refused g ≡ Taken → ⊥
-  refused-taken g e = subst IsRefused e tt
-    where
-      IsRefused : Outcome → Type 0
-      IsRefused Taken = ⊥
-      IsRefused Passed = ⊥
-      IsRefused (Refused n) = Unit
-
   not-taken : (s : ℕ) (t : Step) → Denied r s t → eventOf r (Act s t) .outcome ≡ Taken → ⊥
-  not-taken s t n e = refused-taken (n .ground) (sym (ap (λ (a : Ran). a .outcome) (n .whole)) ∙ e)
+  not-taken s t n e = subst Accepted (sym e ∙ ap (λ (a : Ran). a .outcome) (n .whole)) tt
 
   stop-silent : (s : ℕ) (i : ℕ) → Now r (Stop s) i → ⊥
   stop-silent s i (later y) = some y refl

@@ -34,6 +34,7 @@ use Rattle.promise.specs.SetsMembers.{In, and-none, or-none, in?, in-non
 use Rattle.promise.specs.RunViews.{recordOf, record-at, Runs, Out}
 use Rattle.run.specs.Sound.{Sound}
 use Rattle.promise.specs.Classes.{Kind, Start, Yes, No, MoveP, MoveW, Ack, Commit, Abort, byState, IsQ, IsYes, Gives, yes-gives}
+use Rattle.promise.specs.Classes as classes
 use Rattle.promise.specs.View.{View, seen as seen-at, told as told-by, Lead, Lowest, Inv}
 use Rattle.promise.specs.Does as does
 use Rattle.promise.specs.Does.{Everyone, Only, Idle, Uses, nothing, notes, message, Does}
@@ -59,11 +60,7 @@ is-q A e = absurd (false≢true e)
 is-q C e = absurd (false≢true e)
 
 not-q : (s : State) → isQ s ≡ false → IsQ s → ⊥
-not-q Q e x = true≢false e
-not-q W e x = x
-not-q P e x = x
-not-q A e x = x
-not-q C e x = x
+not-q s e x = true≢false (sym (ap isQ (classes.is-q s x)) ∙ e)
 
 is-w : (s : State) → isW s ≡ true → s ≡ W
 is-w Q e = absurd (false≢true e)
@@ -251,12 +248,7 @@ module _ (w : ℕ → Type 0) (r : Run) (g : Sound r) (u : Inv (viewOf w r)) (j 
       }
 
   no-pass : Passed ≡ Taken → ⊥
-  no-pass e = subst IsPassed e tt
-    where
-      IsPassed : Outcome → Type 0
-      IsPassed Passed = Unit
-      IsPassed Taken = ⊥
-      IsPassed (Refused n) = ⊥
+  no-pass e = let z : _≡_ {A = ℕ} 0 1 = cc in omega arith
 
   -- the delivered message is used up
   same-message : {κ c : Kind} {k i : ℕ} → κ ≡ c → k ≡ i → message κ k ≡ message c i
@@ -342,18 +334,22 @@ module _ (w : ℕ → Type 0) (r : Run) (g : Sound r) (u : Inv (viewOf w r)) (j 
         })
         (λ y. absurd y)
 
-    idle-vote : s .number ≡ 1 → (isW (s .state) && eqb (s .number) 1) ≡ false → a .st j ≢ W
+    -- recorded where a test holds, and without effect where it fails
+    hears-if : (κ : Kind) (b : Bool) → Answer κ → Out (r .net) (number κ) from j → (b ≡ false → Idle a j κ from)
+        → M (step.Deliver (number κ) from) (cond b (taken (hearing κ s from) 0 0) (passed s))
+    hears-if κ b o m i = by-cond (M (step.Deliver (number κ) from)) b (taken (hearing κ s from) 0 0) (passed s) (λ _. hears κ o m) (λ e. passes κ (i e))
+
+    idle-vote : s .number ≡ 1 → polls s ≡ false → a .st j ≢ W
+    unfolding polls
     idle-vote one e d = ⊎-elim (λ n. not-w (s .state) n (sym st-is ∙ d)) (λ n. eqb-false (s .number) 1 n one) (and-none (isW (s .state)) (eqb (s .number) 1) e)
 
     votes-yes : s .number ≡ 1 → Out (r .net) 2 from j → M (step.Deliver 2 from) (voteOf s from vote.Yes)
-    unfolding voteOf polls
-    votes-yes one m =
-        by-cond (M (step.Deliver 2 from)) (isW (s .state) && eqb (s .number) 1) (taken (hearing Yes s from) 0 0) (passed s) (λ e. hears Yes tt m) (λ e. passes Yes (idle-vote one e))
+    unfolding voteOf
+    votes-yes one m = hears-if Yes (polls s) tt m (idle-vote one)
 
     votes-no : s .number ≡ 1 → Out (r .net) 3 from j → M (step.Deliver 3 from) (voteOf s from vote.No)
-    unfolding voteOf polls
-    votes-no one m =
-        by-cond (M (step.Deliver 3 from)) (isW (s .state) && eqb (s .number) 1) (taken (hearing No s from) 0 0) (passed s) (λ e. hears No tt m) (λ e. passes No (idle-vote one e))
+    unfolding voteOf
+    votes-no one m = hears-if No (polls s) tt m (idle-vote one)
 
     -- a leader that is past its first phase and in w or p gathers acknowledgements
     gathers : collects s ≡ false → Lead a j → byState ⊥ Unit Unit ⊥ ⊥ (a .st j) → ⊥
@@ -373,7 +369,7 @@ module _ (w : ℕ → Type 0) (r : Run) (g : Sound r) (u : Inv (viewOf w r)) (j 
 
     acks : Out (r .net) 6 from j → M (step.Deliver 6 from) (ackOf s from)
     unfolding ackOf
-    acks m = by-cond (M (step.Deliver 6 from)) (collects s) (taken (hearing Ack s from) 0 0) (passed s) (λ e. hears Ack tt m) (λ e. passes Ack (gathers e))
+    acks m = hears-if Ack (collects s) tt m gathers
 
     -- an order obeyed: state q, following the sender, who is acknowledged
     follows-order : (κ : Kind) (q : State) (y : ℕ) (o : Outcome) (K : ℕ) → number Ack ≡ K ⊎ ((i : ℕ) → In y i → ⊥) → ((i : ℕ) → In y i → i ≤ r .n) → Does a j (λ i. In y i) q from Ack (message κ from)
