@@ -47,6 +47,14 @@ module _ (n i : ℕ) where
   first-q : i ≡ 1 → asFirst n i Q ≡ 1 + 2 * (n - 1)
   first-q e = ap (λ (b : Bool). cond b (1 + 2 * (n - 1)) 0) (eq-eqb i 1 e)
 
+  -- who has left q has begun
+  first-done : (s : State) → (IsQ s → ⊥) → asFirst n i s ≡ 0
+  first-done Q q = absurd (q tt)
+  first-done W q = refl
+  first-done P q = refl
+  first-done A q = refl
+  first-done C q = refl
+
   -- a site that does not lead
   follows : (s : State) (l : ℕ) → leading i s l ≡ false → own n i s l ≡ 2 + 3 * (n - i) + asFirst n i s
   unfolding own
@@ -79,7 +87,7 @@ module _ (n i : ℕ) where
   -- a leader that has left q
   own-leads : (s : State) (l : ℕ) → Leads i s l → (IsQ s → ⊥) → own n i s l ≡ asLeader n i s
   unfolding own
-  own-leads s l h q = ap (λ (b : Bool). cond b (asLeader n i s) (2 + 3 * (n - i)) + asFirst n i s) (go s h) ∙ sum s q
+  own-leads s l h q = ap (λ (b : Bool). cond b (asLeader n i s) (2 + 3 * (n - i)) + asFirst n i s) (go s h) ∙ omega (arith, first-done s q)
     where
       go : (s : State) → Leads i s l → leading i s l ≡ true
       go Q h = simp (eq-eqb l i (h .0), ne-eqb i 1 (λ e. h .1 (e, tt)))
@@ -87,13 +95,6 @@ module _ (n i : ℕ) where
       go P h = eq-eqb l i (h .0)
       go A h = eq-eqb l i (h .0)
       go C h = eq-eqb l i (h .0)
-
-      sum : (s : State) → (IsQ s → ⊥) → asLeader n i s + asFirst n i s ≡ asLeader n i s
-      sum Q q = absurd (q tt)
-      sum W q = omega arith
-      sum P q = omega arith
-      sum A q = omega arith
-      sum C q = omega arith
 
 -- A step of site j that writes c messages: what j may still do falls by more than they count for, less what the step uses up.
 module _ (a : View) (j : ℕ) (T : ℕ → Type 0) (v : Inv a) (j1 : 1 ≤ j) (n : ℕ) (c : ℕ)
@@ -103,15 +104,7 @@ module _ (a : View) (j : ℕ) (T : ℕ → Type 0) (v : Inv a) (j1 : 1 ≤ j) (n
 
   -- a site that follows another, before and after
   follower : (s : State) (l : ℕ) → (IsQ s → ⊥) → a .ld j ≤ l → l < j → own n j s l ≤ before
-  follower s l q h k =
-      omega (arith, own-follows n j s l (λ e. omega arith), own-follows n j (a .st j) (a .ld j) (λ e. omega arith), less s q)
-    where
-      less : (s : State) → (IsQ s → ⊥) → asFirst n j s ≤ asFirst n j (a .st j)
-      less Q q = absurd (q tt)
-      less W q = omega arith
-      less P q = omega arith
-      less A q = omega arith
-      less C q = omega arith
+  follower s l q h k = omega (arith, own-follows n j s l (λ e. omega arith), own-follows n j (a .st j) (a .ld j) (λ e. omega arith), first-done n j s q)
 
   -- a leader, after
   over-falls : (κ : Kind) → Order κ → 1 < j → c ≤ n - j → own n j (atOrder κ) j + weigh (number κ) * c + 1 ≤ 2 + 3 * (n - j)
