@@ -1,7 +1,7 @@
 -- States and kinds of message in classes: each class is a type that is empty outside it, so that what a class rules out computes away.
 -- Assumes nothing.
 use Prim.Native.Nat.{ℕ, _≤_}
-use mathlib.Core.Path.{_≡_, refl}
+use mathlib.Core.Path.{_≡_, refl, sym, ap, _∙_}
 use Rattle.site.specs.declared.State.{State}
 use Rattle.site.specs.declared.State.the-variants.{Q, W, P, A, C}
 
@@ -82,6 +82,28 @@ atOrder MoveW = W
 atOrder Ack = Q
 atOrder Commit = C
 atOrder Abort = A
+
+-- The order that a leader writes in a state; q has none. No two orders are written in one state.
+orderIn : State → Kind
+orderIn Q = Start
+orderIn W = MoveW
+orderIn P = MoveP
+orderIn A = Abort
+orderIn C = Commit
+
+order-in : (κ : Kind) → Order κ → orderIn (atOrder κ) ≡ κ
+unfolding orderIn
+order-in MoveP o = refl
+order-in MoveW o = refl
+order-in Commit o = refl
+order-in Abort o = refl
+order-in Start o = absurd o
+order-in Yes o = absurd o
+order-in No o = absurd o
+order-in Ack o = absurd o
+
+pub same-order : (κ κ′ : Kind) → Order κ → Order κ′ → atOrder κ ≡ atOrder κ′ → κ ≡ κ′
+same-order κ κ′ o o′ e = sym (order-in κ o) ∙ ap orderIn e ∙ order-in κ′ o′
 
 -- Orders that only a prepared site writes, and those that none does.
 abbrev pub Prepares : Kind → Type 0

@@ -6,8 +6,8 @@ use mathlib.Core.Logic.{_≢_, _⊎_, inl, inr, ⊎-elim}
 use native.Mathlib.Decide.{ℕ-discrete, decLt}
 use native.Mathlib.Omega.{arith}
 use Rattle.site.specs.declared.State.{State}
-use Rattle.site.specs.declared.State.the-variants.{W, P, A, C}
-use Rattle.promise.specs.Classes.{Kind, Start, Yes, No, MoveP, MoveW, Ack, Commit, Abort, byState, byKind, IsQ, IsW, IsA, IsC, QW, Order, atOrder, First, Leads, q-in-qw, w-in-qw, a-final, c-final, is-w}
+use Rattle.site.specs.declared.State.the-variants.{Q, W, P, A, C}
+use Rattle.promise.specs.Classes.{Kind, Start, Yes, No, MoveP, MoveW, Ack, Commit, Abort, byState, byKind, IsQ, IsW, IsA, IsC, QW, IsAck, Order, atOrder, First, Leads, q-in-qw, w-in-qw, a-final, c-final, is-w, is-a, is-c, same-order}
 use Rattle.promise.specs.View.{View, Lowest, Inv}
 use Rattle.promise.specs.Does.{Everyone, Idle, Uses, nothing, notes, message, Does, begin-yes, begin-no, start-yes, start-no, give-up, prepare, move-p, stay-p, move-w, stay-w, commit, abort, over-q, over, end-a, end-c, noted, passed}
 use Rattle.promise.specs.Safety.{alone, settled}
@@ -293,10 +293,7 @@ module _ (a : View) (j : ℕ) (T : ℕ → Type 0) (v : Inv a) (r : a .runs j) w
           }
         where
           mine : b .live Start j i → a .live Start j i
-          mine z = ⊎-elim (λ q. q) (λ q. absurd (subst IsAck′ (sym k ∙ q .0) tt)) (h .only j i z)
-            where
-              IsAck′ : Kind → Type 0
-              IsAck′ κ = byKind ⊥ ⊥ ⊥ ⊥ ⊥ Unit ⊥ ⊥ κ
+          mine z = ⊎-elim (λ q. q) (λ q. absurd (subst IsAck (sym k ∙ q .0) tt)) (h .only j i z)
 
           idle : IsW (a .st j) → (a .st j ≢ W) ⊎ ⊥ → ⊥
           idle w (inl n) = n (is-w (a .st j) w)
@@ -309,40 +306,21 @@ module _ (a : View) (j : ℕ) (T : ℕ → Type 0) (v : Inv a) (r : a .runs j) w
             unasked = λ p q. absurd (n .first (p, q-in-qw s q) .2 q);
             asking = λ p w z. e .unasked p (n .first (p, w-in-qw s w) .1);
             begun = λ p z q. n .first (p, q-in-qw s q) .2 q;
-            moved = λ f w. let g = n .leads f in move κ (g .0) (rw (g .1) at w) refl (g .2 .every i (h .runs i x) ne);
-            aborts = λ f w. let g = n .leads f in inl (came Abort i (is-a κ (g .0) (rw (g .1) at w)) x (g .2 .every i (h .runs i x) ne));
-            commits = λ f w. let g = n .leads f in inl (came Commit i (is-c κ (g .0) (rw (g .1) at w)) x (g .2 .every i (h .runs i x) ne));
+            moved = λ f w. move s refl w (n .leads f);
+            aborts = λ f w. inl (given Abort tt (is-a s w) (n .leads f));
+            commits = λ f w. inl (given Commit tt (is-c s w) (n .leads f));
           }
         where
-          move : (κ′ : Kind) → Order κ′ → WP (atOrder κ′) → κ ≡ κ′ → T i → b .live MoveP j i ⊎ (b .live MoveW j i ⊎ b .live Ack i j)
-          move MoveP o w q t = inl (came MoveP i q x t)
-          move MoveW o w q t = inr (inl (came MoveW i q x t))
-          move Commit o w q t = absurd w
-          move Abort o w q t = absurd w
-          move Start o w q t = absurd o
-          move Yes o w q t = absurd o
-          move No o w q t = absurd o
-          move Ack o w q t = absurd o
+          -- the order that goes with the state of j is on its way to i
+          given : (κ′ : Kind) → Order κ′ → s ≡ atOrder κ′ → Order κ × (s ≡ atOrder κ) × Everyone a j T → b .live κ′ j i
+          given κ′ o e g = came κ′ i (same-order κ κ′ (g .0) o (sym (g .1) ∙ e)) x (g .2 .every i (h .runs i x) ne)
 
-          is-a : (κ′ : Kind) → Order κ′ → IsA (atOrder κ′) → κ′ ≡ Abort
-          is-a Abort o w = refl
-          is-a MoveP o w = absurd w
-          is-a MoveW o w = absurd w
-          is-a Commit o w = absurd w
-          is-a Start o w = absurd o
-          is-a Yes o w = absurd o
-          is-a No o w = absurd o
-          is-a Ack o w = absurd o
-
-          is-c : (κ′ : Kind) → Order κ′ → IsC (atOrder κ′) → κ′ ≡ Commit
-          is-c Commit o w = refl
-          is-c MoveP o w = absurd w
-          is-c MoveW o w = absurd w
-          is-c Abort o w = absurd w
-          is-c Start o w = absurd o
-          is-c Yes o w = absurd o
-          is-c No o w = absurd o
-          is-c Ack o w = absurd o
+          move : (t : State) → s ≡ t → WP t → Order κ × (s ≡ atOrder κ) × Everyone a j T → b .live MoveP j i ⊎ (b .live MoveW j i ⊎ b .live Ack i j)
+          move P e w g = inl (given MoveP tt e g)
+          move W e w g = inr (inl (given MoveW tt e g))
+          move Q e w g = absurd w
+          move A e w g = absurd w
+          move C e w g = absurd w
 
       from : Due (b .live) j s l i (a .st i)
       from = ⊎-elim (λ q. rw (q .0, q .1) (quiet (q .2))) announced (announces c)
