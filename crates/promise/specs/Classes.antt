@@ -41,6 +41,9 @@ PC s = byState ⊥ ⊥ Unit ⊥ Unit s
 abbrev pub QWA : State → Type 0
 QWA s = byState Unit Unit ⊥ Unit ⊥ s
 
+abbrev pub WPAC : State → Type 0
+WPAC s = byState ⊥ Unit Unit Unit Unit s
+
 -- One type for each kind.
 abbrev pub byKind : (s y n p w k c a : Type 0) → Kind → Type 0
 byKind s y n p w k c a Start = s
@@ -51,10 +54,6 @@ byKind s y n p w k c a MoveW = w
 byKind s y n p w k c a Ack = k
 byKind s y n p w k c a Commit = c
 byKind s y n p w k c a Abort = a
-
--- Orders are what a leader writes: Move-p, Move-w, Commit and Abort.
-abbrev pub Order : Kind → Type 0
-Order κ = byKind ⊥ ⊥ ⊥ Unit Unit ⊥ Unit Unit κ
 
 abbrev pub IsYes : Kind → Type 0
 IsYes κ = byKind ⊥ Unit ⊥ ⊥ ⊥ ⊥ ⊥ ⊥ κ
@@ -72,7 +71,7 @@ IsCommit κ = κ ≡ Commit
 abbrev pub IsAbort : Kind → Type 0
 IsAbort κ = κ ≡ Abort
 
--- The state in which a leader writes an order; for the other kinds it has no meaning.
+-- Orders are what a leader writes: Move-p, Move-w, Commit and Abort. The state in which it writes each; q for the other kinds.
 abbrev pub atOrder : Kind → State
 atOrder Start = Q
 atOrder Yes = Q
@@ -83,27 +82,8 @@ atOrder Ack = Q
 atOrder Commit = C
 atOrder Abort = A
 
--- The order that a leader writes in a state; q has none. No two orders are written in one state.
-orderIn : State → Kind
-orderIn Q = Start
-orderIn W = MoveW
-orderIn P = MoveP
-orderIn A = Abort
-orderIn C = Commit
-
-order-in : (κ : Kind) → Order κ → orderIn (atOrder κ) ≡ κ
-unfolding orderIn
-order-in MoveP o = refl
-order-in MoveW o = refl
-order-in Commit o = refl
-order-in Abort o = refl
-order-in Start o = absurd o
-order-in Yes o = absurd o
-order-in No o = absurd o
-order-in Ack o = absurd o
-
-pub same-order : (κ κ′ : Kind) → Order κ → Order κ′ → atOrder κ ≡ atOrder κ′ → κ ≡ κ′
-same-order κ κ′ o o′ e = sym (order-in κ o) ∙ ap orderIn e ∙ order-in κ′ o′
+abbrev pub Order : Kind → Type 0
+Order κ = WPAC (atOrder κ)
 
 -- Orders that only a prepared site writes, and those that none does.
 abbrev pub Prepares : Kind → Type 0
@@ -127,47 +107,6 @@ relies-if W k s l f g = f refl
 relies-if P k s l f g = g refl
 relies-if A k s l f g = tt
 relies-if C k s l f g = tt
-
--- Both classes of orders are orders; no order goes with a vote, and a Yes does.
-pub prepares-order : (κ : Kind) → Prepares κ → Order κ
-prepares-order Start x = x
-prepares-order Yes x = x
-prepares-order No x = x
-prepares-order MoveP x = x
-prepares-order MoveW x = tt
-prepares-order Ack x = x
-prepares-order Commit x = x
-prepares-order Abort x = tt
-
-pub yields-order : (κ : Kind) → Yields κ → Order κ
-yields-order Start x = x
-yields-order Yes x = x
-yields-order No x = x
-yields-order MoveP x = tt
-yields-order MoveW x = x
-yields-order Ack x = x
-yields-order Commit x = tt
-yields-order Abort x = x
-
-pub order-gives : (κ : Kind) → Order κ → Gives κ → ⊥
-order-gives Start x y = x
-order-gives Yes x y = x
-order-gives No x y = x
-order-gives MoveP x y = y
-order-gives MoveW x y = y
-order-gives Ack x y = x
-order-gives Commit x y = y
-order-gives Abort x y = y
-
-pub yes-gives : (κ : Kind) → IsYes κ → Gives κ
-yes-gives Start x = tt
-yes-gives Yes x = x
-yes-gives No x = x
-yes-gives MoveP x = x
-yes-gives MoveW x = x
-yes-gives Ack x = x
-yes-gives Commit x = x
-yes-gives Abort x = x
 
 -- Site k in state s is in its first phase: it may still prepare without an order.
 abbrev pub First : ℕ → State → Type 0
@@ -321,3 +260,73 @@ qw-not-a s x y = rw (is-a s y) at x
 
 pub qwa-not-c : (s : State) → QWA s → IsC s → ⊥
 qwa-not-c s x y = rw (is-c s y) at x
+
+-- A state is q or one of the others, and never both.
+pub rest-in-wpac : (s : State) → (IsQ s → ⊥) → WPAC s
+rest-in-wpac Q x = x tt
+rest-in-wpac W x = tt
+rest-in-wpac P x = tt
+rest-in-wpac A x = tt
+rest-in-wpac C x = tt
+
+pub wpac-not-q : (s : State) → WPAC s → IsQ s → ⊥
+wpac-not-q s x y = rw (is-q s y) at x
+
+-- ---- orders
+
+-- Both classes of orders are orders.
+pub prepares-order : (κ : Kind) → Prepares κ → Order κ
+prepares-order κ x = rest-in-wpac (atOrder κ) (pc-not-q (atOrder κ) x)
+
+pub yields-order : (κ : Kind) → Yields κ → Order κ
+yields-order κ x = rest-in-wpac (atOrder κ) (λ q. rw (is-q (atOrder κ) q) at x)
+
+-- The order that a leader writes in a state; q has none. No two orders are written in one state.
+orderIn : State → Kind
+orderIn Q = Start
+orderIn W = MoveW
+orderIn P = MoveP
+orderIn A = Abort
+orderIn C = Commit
+
+order-in : (κ : Kind) → Order κ → orderIn (atOrder κ) ≡ κ
+unfolding orderIn
+order-in MoveP o = refl
+order-in MoveW o = refl
+order-in Commit o = refl
+order-in Abort o = refl
+order-in Start o = absurd o
+order-in Yes o = absurd o
+order-in No o = absurd o
+order-in Ack o = absurd o
+
+pub same-order : (κ κ′ : Kind) → Order κ → Order κ′ → atOrder κ ≡ atOrder κ′ → κ ≡ κ′
+same-order κ κ′ o o′ e = sym (order-in κ o) ∙ ap orderIn e ∙ order-in κ′ o′
+
+-- No order is of a class of the other kinds.
+pub order-apart : (s y n k : Type 0) (κ : Kind) → Order κ → byKind s y n ⊥ ⊥ k ⊥ ⊥ κ → ⊥
+order-apart s y n k MoveP o x = x
+order-apart s y n k MoveW o x = x
+order-apart s y n k Commit o x = x
+order-apart s y n k Abort o x = x
+order-apart s y n k Start o x = o
+order-apart s y n k Yes o x = o
+order-apart s y n k No o x = o
+order-apart s y n k Ack o x = o
+
+pub order-gives : (κ : Kind) → Order κ → Gives κ → ⊥
+order-gives κ = order-apart Unit Unit ⊥ ⊥ κ
+
+pub order-acks : (κ : Kind) → Order κ → IsAck κ → ⊥
+order-acks κ = order-apart ⊥ ⊥ ⊥ Unit κ
+
+-- A Yes goes with a vote.
+pub yes-gives : (κ : Kind) → IsYes κ → Gives κ
+yes-gives Start x = tt
+yes-gives Yes x = x
+yes-gives No x = x
+yes-gives MoveP x = x
+yes-gives MoveW x = x
+yes-gives Ack x = x
+yes-gives Commit x = x
+yes-gives Abort x = x

@@ -7,7 +7,7 @@ use native.Mathlib.Decide.{ℕ-discrete, decLt}
 use native.Mathlib.Omega.{arith}
 use Rattle.site.specs.declared.State.{State}
 use Rattle.site.specs.declared.State.the-variants.{Q, W, P, A, C}
-use Rattle.promise.specs.Classes.{Kind, Start, Yes, No, MoveP, MoveW, Ack, Commit, Abort, byState, byKind, IsQ, IsW, IsA, IsC, QW, IsAck, Order, atOrder, First, Leads, q-in-qw, w-in-qw, a-final, c-final, is-w, is-a, is-c, same-order}
+use Rattle.promise.specs.Classes.{Kind, Start, Yes, No, MoveP, MoveW, Ack, Commit, Abort, byState, byKind, IsQ, IsW, IsA, IsC, QW, IsAck, Order, atOrder, First, Leads, q-in-qw, w-in-qw, a-final, c-final, is-w, is-a, is-c, wpac-not-q, same-order}
 use Rattle.promise.specs.View.{View, Lowest, Inv}
 use Rattle.promise.specs.Does.{Everyone, Idle, Uses, nothing, notes, message, Does, begin-yes, begin-no, start-yes, start-no, give-up, prepare, move-p, stay-p, move-w, stay-w, commit, abort, over-q, over, end-a, end-c, noted, passed}
 use Rattle.promise.specs.Safety.{alone, settled}
@@ -157,16 +157,6 @@ module _ (a : View) (j : ℕ) (T : ℕ → Type 0) (v : Inv a) (r : a .runs j) w
   leader : (κ : Kind) (l : ℕ) → Order κ → (First j (atOrder κ) → ⊥) → (IsQ (atOrder κ) → ⊥) → Everyone a j T → Announced (atOrder κ) l κ
   leader κ l o f q t = record { leads = λ _. (o, refl, t); first = λ x. absurd (f x); left = λ _ _ x. q x }
 
-  order-not-q : (κ : Kind) → Order κ → IsQ (atOrder κ) → ⊥
-  order-not-q MoveP o x = x
-  order-not-q MoveW o x = x
-  order-not-q Commit o x = x
-  order-not-q Abort o x = x
-  order-not-q Start o x = o
-  order-not-q Yes o x = o
-  order-not-q No o x = o
-  order-not-q Ack o x = o
-
   after-1 : 1 < j → (s : State) → First j s → ⊥
   after-1 h s f = let e : j ≡ 1 = f .0 in omega arith
 
@@ -187,7 +177,7 @@ module _ (a : View) (j : ℕ) (T : ℕ → Type 0) (v : Inv a) (r : a .runs j) w
   announces (commit {k} h1 h m z) = inr (follower C k Ack (v .up Commit k j tt m) (λ f. f .1))
   announces (abort {k} h1 h m z) = inr (follower A k Ack (v .up Abort k j tt m) (λ f. f .1))
   announces (over-q h1 h n q t) = inr (leader Abort j tt (λ f. f .1) (λ x. x) t)
-  announces {κ = κ} (over o h1 h n e t) = inr (leader κ j o (after-1 h1 (atOrder κ)) (order-not-q κ o) t)
+  announces {κ = κ} (over o h1 h n e t) = inr (leader κ j o (after-1 h1 (atOrder κ)) (wpac-not-q (atOrder κ) o) t)
   announces (end-a l w h t) = inr (leader Abort (a .ld j) tt (λ f. f .1) (λ x. x) t)
   announces (end-c l p h t) = inr (leader Commit (a .ld j) tt (λ f. f .1) (λ x. x) t)
   announces (noted z) = inl (refl, refl, refl)

@@ -7,7 +7,7 @@ use native.Mathlib.Decide.{ℕ-discrete, decLt}
 use native.Mathlib.Omega.{arith}
 use Rattle.site.specs.declared.State.{State}
 use Rattle.site.specs.declared.State.the-variants.{Q, W, P, A, C}
-use Rattle.promise.specs.Classes.{Kind, Start, Yes, No, MoveP, MoveW, Ack, Commit, Abort, byState, IsQ, WA, PC, QWA, Order, atOrder, Stands, Relies, First, IsYes, IsAck, Gives, relies-if, order-gives, yes-gives, wa-in-qwa, Final}
+use Rattle.promise.specs.Classes.{Kind, Start, Yes, No, MoveP, MoveW, Ack, Commit, Abort, byState, IsQ, WA, PC, QWA, Order, atOrder, Stands, Relies, First, IsYes, IsAck, Gives, relies-if, order-gives, order-acks, yes-gives, wa-in-qwa, Final}
 use Rattle.promise.specs.View.{View, seen, told, EA, Lead, Lowest, MayPrepare, MayAbort, MayCommit, Safe, nobody, Inv}
 use Rattle.promise.specs.Less.{Votes, stop, stop-inv, stop-prepare, stop-abort, stop-commit}
 use Rattle.promise.specs.Become.{upd-same, upd-other, become, Fits, become-inv}
@@ -181,17 +181,7 @@ module _ (a : View) (j : ℕ) (v : Inv a) (r : a .runs j) where
   answered (commit h1 h m z) o i x = absurd (z i x)
   answered (abort h1 h m z) o i x = absurd (z i x)
   answered (over-q h1 h n q t) o i x = absurd o
-  answered {κ = κ} (over o h1 h n e t) o′ i x = absurd (apart κ o o′)
-    where
-      apart : (κ : Kind) → Order κ → IsAck κ → ⊥
-      apart Start x y = x
-      apart Yes x y = x
-      apart No x y = x
-      apart MoveP x y = y
-      apart MoveW x y = y
-      apart Ack x y = x
-      apart Commit x y = y
-      apart Abort x y = y
+  answered {κ = κ} (over o h1 h n e t) o′ i x = absurd (order-acks κ o o′)
   answered (end-a l w h t) o i x = absurd o
   answered (end-c l p h t) o i x = absurd o
   answered (noted z) o i x = absurd (z i x)
