@@ -2,6 +2,7 @@
 -- Assumes nothing.
 use Prim.Native.Nat.{ℕ, _≤_}
 use mathlib.Core.Path.{_≡_, refl, sym, ap, _∙_}
+use mathlib.Core.Logic.{_⊎_, inl, inr}
 use Rattle.site.specs.declared.State.{State}
 use Rattle.site.specs.declared.State.the-variants.{Q, W, P, A, C}
 
@@ -40,6 +41,12 @@ PC s = byState ⊥ ⊥ Unit ⊥ Unit s
 
 abbrev pub QWA : State → Type 0
 QWA s = byState Unit Unit ⊥ Unit ⊥ s
+
+abbrev pub WP : State → Type 0
+WP s = byState ⊥ Unit Unit ⊥ ⊥ s
+
+abbrev pub QWP : State → Type 0
+QWP s = byState Unit Unit Unit ⊥ ⊥ s
 
 abbrev pub WPAC : State → Type 0
 WPAC s = byState ⊥ Unit Unit Unit Unit s
@@ -213,6 +220,13 @@ a-final s x = rw (is-a s x) tt
 
 pub c-final : (s : State) → IsC s → Final s
 c-final s x = rw (is-c s x) tt
+
+pub final-is : (s : State) → Final s → (s ≡ A) ⊎ (s ≡ C)
+final-is Q x = absurd x
+final-is W x = absurd x
+final-is P x = absurd x
+final-is A x = inl refl
+final-is C x = inr refl
 
 -- A state is in one of PC and QWA, and never in both; nor in PC and in a part of QWA.
 pub rest-in-qwa : (s : State) → (PC s → ⊥) → QWA s

@@ -5,7 +5,7 @@ use mathlib.Core.Path.{_≡_}
 use mathlib.Core.Logic.{_≢_, _⊎_}
 use Rattle.site.specs.declared.State.{State}
 use Rattle.site.specs.declared.State.the-variants.{Q, W, P, A, C}
-use Rattle.promise.specs.Classes.{Kind, Start, Yes, No, MoveP, MoveW, Ack, Commit, Abort, byState, IsQ, PC, Order, atOrder}
+use Rattle.promise.specs.Classes.{Kind, Start, Yes, No, MoveP, MoveW, Ack, Commit, Abort, IsQ, PC, WP, QWP, Order, atOrder}
 use Rattle.promise.specs.View.{View, Lead, Lowest}
 
 -- The step writes to every running site but j, and to higher ones only.
@@ -25,7 +25,7 @@ Idle a j Yes k = a .st j ≢ W
 Idle a j No k = a .st j ≢ W
 Idle a j MoveP k = k < a .ld j
 Idle a j MoveW k = k < a .ld j
-Idle a j Ack k = Lead a j → byState ⊥ Unit Unit ⊥ ⊥ (a .st j) → ⊥
+Idle a j Ack k = Lead a j → WP (a .st j) → ⊥
 Idle a j Commit k = k < a .ld j
 Idle a j Abort k = k < a .ld j
 
@@ -46,7 +46,7 @@ pub data Does (a : View) (j : ℕ) (T : ℕ → Type 0) : State → ℕ → Kind
   -- an order of a leader k that is not below the one followed
   move-p : {k : ℕ} → 1 ≤ k → a .ld j ≤ k → a .live MoveP k j → a .st j ≡ W → Only k T → Does a j T P k Ack (message MoveP k)
   stay-p : {s : State} {k : ℕ} → 1 ≤ k → a .ld j ≤ k → a .live MoveP k j → a .st j ≡ s → PC s → Only k T → Does a j T s k Ack (message MoveP k)
-  move-w : {k : ℕ} → 1 ≤ k → a .ld j ≤ k → a .live MoveW k j → byState Unit Unit Unit ⊥ ⊥ (a .st j) → Only k T → Does a j T W k Ack (message MoveW k)
+  move-w : {k : ℕ} → 1 ≤ k → a .ld j ≤ k → a .live MoveW k j → QWP (a .st j) → Only k T → Does a j T W k Ack (message MoveW k)
   stay-w : {k : ℕ} → 1 ≤ k → a .ld j ≤ k → a .live MoveW k j → a .st j ≡ A → Only k T → Does a j T A k Ack (message MoveW k)
   commit : {k : ℕ} → 1 ≤ k → a .ld j ≤ k → a .live Commit k j → ((i : ℕ) → T i → ⊥) → Does a j T C k Ack (message Commit k)
   abort : {k : ℕ} → 1 ≤ k → a .ld j ≤ k → a .live Abort k j → ((i : ℕ) → T i → ⊥) → Does a j T A k Ack (message Abort k)

@@ -7,14 +7,10 @@ use native.Mathlib.Decide.{ℕ-discrete, decLt}
 use native.Mathlib.Omega.{arith}
 use Rattle.site.specs.declared.State.{State}
 use Rattle.site.specs.declared.State.the-variants.{Q, W, P, A, C}
-use Rattle.promise.specs.Classes.{Kind, Start, Yes, No, MoveP, MoveW, Ack, Commit, Abort, byState, byKind, IsQ, IsW, IsA, IsC, QW, IsAck, Order, atOrder, First, Leads, q-in-qw, w-in-qw, a-final, c-final, is-w, is-a, is-c, wpac-not-q, same-order}
+use Rattle.promise.specs.Classes.{Kind, Start, Yes, No, MoveP, MoveW, Ack, Commit, Abort, byKind, IsQ, IsW, IsA, IsC, QW, WP, IsAck, Order, atOrder, First, Leads, q-in-qw, w-in-qw, a-final, c-final, is-w, is-a, is-c, wpac-not-q, same-order}
 use Rattle.promise.specs.View.{View, Lowest, Inv}
 use Rattle.promise.specs.Does.{Everyone, Idle, Uses, nothing, notes, message, Does, begin-yes, begin-no, start-yes, start-no, give-up, prepare, move-p, stay-p, move-w, stay-w, commit, abort, over-q, over, end-a, end-c, noted, passed}
 use Rattle.promise.specs.Safety.{alone, settled}
-
--- A leader in w or p waits.
-abbrev pub WP : State → Type 0
-WP s = byState ⊥ Unit Unit ⊥ ⊥ s
 
 -- What is due between k, in state s and following l, and another site j in state t.
 pub record Due (live : Kind → ℕ → ℕ → Type 0) (k : ℕ) (s : State) (l : ℕ) (j : ℕ) (t : State) : Type 0 where

@@ -6,8 +6,8 @@ use mathlib.Core.Logic.{_≢_, _⊎_, inl, inr, ⊎-elim}
 use native.Mathlib.Decide.{ℕ-discrete, decLt}
 use native.Mathlib.Omega.{arith}
 use Rattle.site.specs.declared.State.{State}
-use Rattle.site.specs.declared.State.the-variants.{Q, W, P, A, C}
-use Rattle.promise.specs.Classes.{Kind, Start, Yes, No, MoveP, MoveW, Ack, Commit, Abort, byState, IsQ, WA, PC, QWA, Order, atOrder, Stands, Relies, First, IsYes, IsAck, Gives, relies-if, order-gives, order-acks, yes-gives, wa-in-qwa, Final}
+use Rattle.site.specs.declared.State.the-variants.{Q, W, P, A}
+use Rattle.promise.specs.Classes.{Kind, Start, Yes, No, MoveP, MoveW, Ack, Commit, Abort, IsQ, WA, PC, QWA, Order, atOrder, Stands, Relies, First, IsYes, IsAck, Gives, relies-if, order-gives, order-acks, yes-gives, wa-in-qwa, Final, final-is}
 use Rattle.promise.specs.View.{View, seen, told, EA, Lead, Lowest, MayPrepare, MayAbort, MayCommit, Safe, nobody, Inv}
 use Rattle.promise.specs.Less.{Votes, stop, stop-inv, stop-prepare, stop-abort, stop-commit}
 use Rattle.promise.specs.Become.{upd-same, upd-other, become, Fits, become-inv}
@@ -299,20 +299,6 @@ module _ (a : View) (j : ℕ) (v : Inv a) (r : a .runs j) (w : ℕ → Type 0) (
 
 -- A step leaves neither a nor c.
 module _ (a : View) (j : ℕ) (T : ℕ → Type 0) (v : Inv a) (r : a .runs j) where
-  only-c : (s : State) → PC s → Final s → C ≡ s
-  only-c Q p f = absurd p
-  only-c W p f = absurd p
-  only-c P p f = absurd f
-  only-c A p f = absurd p
-  only-c C p f = refl
-
-  only-a : (s : State) → QWA s → Final s → A ≡ s
-  only-a Q p f = absurd f
-  only-a W p f = absurd f
-  only-a P p f = absurd p
-  only-a A p f = refl
-  only-a C p f = absurd p
-
   pub settled : {s : State} {l : ℕ} {κ : Kind} {y : Uses} → Does a j T s l κ y → Final (a .st j) → s ≡ a .st j
   settled (begin-yes e q l t) f = absurd (rw q at f)
   settled (begin-no e q l t) f = absurd (rw q at f)
@@ -322,17 +308,10 @@ module _ (a : View) (j : ℕ) (T : ℕ → Type 0) (v : Inv a) (r : a .runs j) w
   settled (prepare e w l h t) f = absurd (rw w at f)
   settled (move-p h1 h m w t) f = absurd (rw w at f)
   settled (stay-p h1 h m e p t) f = sym e
-  settled (move-w h1 h m q t) f = absurd (apart (a .st j) q f)
-    where
-      apart : (s : State) → byState Unit Unit Unit ⊥ ⊥ s → Final s → ⊥
-      apart Q x y = y
-      apart W x y = y
-      apart P x y = y
-      apart A x y = x
-      apart C x y = x
+  settled (move-w h1 h m q t) f = absurd (⊎-elim (λ d. rw d at q) (λ d. rw d at q) (final-is (a .st j) f))
   settled (stay-w h1 h m e t) f = sym e
-  settled (commit {k} h1 h m z) f = only-c (a .st j) (v .committed (told Commit k j refl m) .each j r) f
-  settled (abort {k} h1 h m z) f = only-a (a .st j) (v .aborted (told Abort k j refl m) .none j r) f
+  settled (commit {k} h1 h m z) f = ⊎-elim (λ d. absurd (rw d at (v .committed (told Commit k j refl m) .each j r))) sym (final-is (a .st j) f)
+  settled (abort {k} h1 h m z) f = ⊎-elim sym (λ d. absurd (rw d at (v .aborted (told Abort k j refl m) .none j r))) (final-is (a .st j) f)
   settled (over-q h1 h n q t) f = absurd (rw q at f)
   settled (over o h1 h n e t) f = sym e
   settled (end-a l w h t) f = absurd (rw w at f)

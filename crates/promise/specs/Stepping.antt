@@ -33,7 +33,7 @@ use Rattle.sets.specs.Truths.{and-l, and-r, or-e, clash, fails}
 use Rattle.promise.specs.SetsMembers.{In, and-none, or-none, in?, in-none, minus-in, minus-out, in-minus, in-with, in-with-new, weight-in, in-weight, others-in, others-out, in-others, in-below}
 use Rattle.promise.specs.RunViews.{recordOf, record-at, Runs, Out}
 use Rattle.run.specs.Sound.{Sound}
-use Rattle.promise.specs.Classes.{Kind, Start, Yes, No, MoveP, MoveW, Ack, Commit, Abort, byState, IsQ, IsYes, Gives, yes-gives}
+use Rattle.promise.specs.Classes.{Kind, Start, Yes, No, MoveP, MoveW, Ack, Commit, Abort, IsQ, WP, IsYes, Gives, yes-gives}
 use Rattle.promise.specs.Classes as classes
 use Rattle.promise.specs.View.{View, seen as seen-at, told as told-by, Lead, Lowest, Inv}
 use Rattle.promise.specs.Does as does
@@ -352,7 +352,7 @@ module _ (w : ℕ → Type 0) (r : Run) (g : Sound r) (u : Inv (viewOf w r)) (j 
     votes-no one m = hears-if No (polls s) tt m (idle-vote one)
 
     -- a leader that is past its first phase and in w or p gathers acknowledgements
-    gathers : collects s ≡ false → Lead a j → byState ⊥ Unit Unit ⊥ ⊥ (a .st j) → ⊥
+    gathers : collects s ≡ false → Lead a j → WP (a .st j) → ⊥
     unfolding collects
     gathers e l q =
         ⊎-elim (λ n. eqb-false (s .leader) (s .number) n (sym ld-is ∙ l .0 ∙ sym mine))

@@ -41,9 +41,9 @@ use Rattle.sets.specs.Truths.{and-i, clash, fails}
 use Rattle.promise.specs.SetsMembers.{In, or-none, in?, in-none, minus-in, minus-out, others-in, others-out, below-in}
 use Rattle.promise.specs.RunViews.{recordOf, record-at, Runs, Out, out-placed}
 use Rattle.promise.specs.RunEvents.{Accepted, allow}
-use Rattle.promise.specs.Classes.{Kind, Start, Yes, No, MoveP, MoveW, Ack, Commit, Abort, IsA, IsC, First, is-a, is-c}
+use Rattle.promise.specs.Classes.{Kind, Start, Yes, No, MoveP, MoveW, Ack, Commit, Abort, IsA, IsC, WP, First, is-a, is-c}
 use Rattle.promise.specs.View.{Lowest}
-use Rattle.promise.specs.Owed.{Owed, Due, WP}
+use Rattle.promise.specs.Owed.{Owed, Due}
 use Rattle.promise.specs.Seen.{number, Recorded, viewOf}
 use Rattle.promise.specs.Stepping.{Sure, Stepped, steps}
 use Rattle.promise.specs.Words.{Voted}
