@@ -74,6 +74,12 @@ wholeRun r net j x K m = record { n = r .n; stopped = r .stopped; sites = set (r
 abbrev pub partRun : Run → ℕ → ℕ → ℕ → Run
 partRun r j K m = record { n = r .n; stopped = withSite (r .stopped) j; sites = r .sites; net = sentNet (stoppedNet (r .net) j) K j m }
 
+-- Messages of kind K of j to the sites of m are added to net, which is r's network, perhaps with fewer messages: what is then outstanding was so in r, or is one of them.
+sent-live : (r : Run) (net : List ℕ) → length net ≡ 72 → ((K k i : ℕ) → Out net K k i → Out (r .net) K k i) → (j K m : ℕ) (κ : Kind) (T : ℕ → Type 0) → ((i : ℕ) → In m i → (K ≡ number κ) × T i)
+    → (κ′ : Kind) (k i : ℕ) → Out (sentNet net K j m) (number κ′) k i → Out (r .net) (number κ′) k i ⊎ ((κ ≡ κ′) × (j ≡ k) × T i)
+sent-live r net len fewer j K m κ T kind κ′ k i y =
+    ⊎-elim (λ z. inl (fewer (number κ′) k i z)) (λ z. let c = kind i (z .2) in inr (same-kind κ κ′ (sym (c .0) ∙ z .0), z .1, c .1)) (sent-cases net K j m len (number κ′) k i y)
+
 -- Site j of r has a new record x and writes messages of kind K to a set; net is r's, perhaps with fewer messages.
 module _ (w w′ : ℕ → Type 0) (r : Run) (shape : Shape r) (net : List ℕ) (len : length net ≡ 72) (j : ℕ) (j1 : 1 ≤ j) (j8 : j ≤ 8)
     (x : Record) (K m : ℕ) (κ : Kind) (T : ℕ → Type 0)
@@ -95,7 +101,7 @@ module _ (w w′ : ℕ → Type 0) (r : Run) (shape : Shape r) (net : List ℕ) 
       go (no ne) = upd-other _ j (f x) i ne ∙ ap f (sym (others (r .sites) j x j1 i ne))
 
   lives : (κ′ : Kind) (k i : ℕ) → viewOf w′ wholly .live κ′ k i → viewOf w r .live κ′ k i ⊎ ((κ ≡ κ′) × (j ≡ k) × T i)
-  lives κ′ k i (inl y) = ⊎-elim (λ z. inl (inl (fewer (number κ′) k i z))) (λ z. inr (same-kind κ κ′ (sym (kind i (z .2) .0) ∙ z .0), z .1, kind i (z .2) .1)) (sent-cases net K j m len (number κ′) k i y)
+  lives κ′ k i (inl y) = ⊎-elim (λ z. inl (inl z)) (λ z. inr z) (sent-live r net len fewer j K m κ T kind κ′ k i y)
   lives κ′ k i (inr y) = go (ℕ-discrete i j)
     where
       go : Dec (i ≡ j) → viewOf w r .live κ′ k i ⊎ ((κ ≡ κ′) × (j ≡ k) × T i)
@@ -141,8 +147,7 @@ module _ (w w′ : ℕ → Type 0) (r : Run) (shape : Shape r) (j : ℕ) (j1 : 1
 
   lives′ : (κ′ : Kind) (k i : ℕ) → viewOf w′ partly .live κ′ k i → viewOf w r .live κ′ k i ⊎ ((κ ≡ κ′) × (j ≡ k) × T i)
   lives′ κ′ k i (inl y) =
-      ⊎-elim (λ z. inl (inl (stopped-less (r .net) j (number κ′) k i z))) (λ z. inr (same-kind κ κ′ (sym (kind i (z .2) .0) ∙ z .0), z .1, kind i (z .2) .1))
-      (sent-cases (stoppedNet (r .net) j) K j m (length-map (r .net) _ ∙ shape .net) (number κ′) k i y)
+      ⊎-elim (λ z. inl (inl z)) (λ z. inr z) (sent-live r (stoppedNet (r .net) j) (length-map (r .net) _ ∙ shape .net) (stopped-less (r .net) j) j K m κ T kind κ′ k i y)
   lives′ κ′ k i (inr y) = inl (inr y)
 
   pub partly-less : Less (viewOf w′ partly) (send (stop (viewOf w r) j (viewOf w′ r .voted)) κ j T)
