@@ -6,8 +6,8 @@ use mathlib.Core.Logic.{_≢_, _⊎_, inl, inr, ⊎-elim}
 use native.Mathlib.Decide.{ℕ-discrete}
 use native.Mathlib.Omega.{arith}
 use Rattle.site.specs.declared.State.{State}
-use Rattle.promise.specs.Classes.{Kind, MoveP, MoveW, Ack, IsQ, IsW, IsA, IsC, PC, QW, QWA, Prepares, IsCommit, IsAbort, Stands, Relies, First, Leads, Onward, onward-stands, onward-first, onward-relies, qw-not-a, qwa-not-c, pc-not-a, pc-not-qw, q-in-qw, a-in-qwa, c-in-pc}
-use Rattle.promise.specs.View.{View, Evidence, seen, told, EP, EA, EC, Open, Lead, Mute, MayPrepare, MayAbort, MayCommit, Safe, nobody, Inv}
+use Rattle.promise.specs.Classes.{Kind, Ack, IsQ, IsW, IsA, IsC, PC, QW, QWA, Prepares, IsCommit, IsAbort, Stands, Relies, First, Leads, Onward, onward-stands, onward-first, onward-relies, qw-not-a, qwa-not-c, pc-not-a, pc-not-qw, q-in-qw, a-in-qwa, c-in-pc}
+use Rattle.promise.specs.View.{View, Evidence, seen, told, EP, EA, EC, Open, Lead, Mute, MayPrepare, Decided, MayAbort, MayCommit, Safe, nobody, Inv}
 use Rattle.promise.specs.Less.{Votes}
 
 pick : {T : Type 0} {i j : ℕ} → Dec (i ≡ j) → T → T → T
@@ -106,35 +106,33 @@ module _ (a : View) (j : ℕ) (s : State) (l : ℕ) (w : ℕ → Type 0) (v : In
         shut = λ i o. pc-not-qw s p (open-j i o (f .safe .prepared p .shut i (was-open i o)));
       }
 
+  -- what holds where some site decided stays so where it holds of s
+  keep : {S : State → Type 0} {κ : Kind} {E F : Type 0} → Decided a S κ E → S s → (F → ⊥) → Decided b S κ F
+  keep {S} {κ} o q x =
+      record {
+        each = all (λ i t m. a .runs i → S t) (λ r. q) (λ i _. o .each i);
+        deaf = λ k i m. all (λ i t l. a .live κ k i → a .runs i → k < l)
+            (λ m r. let d : k < a .ld j = o .deaf k j m r in let u : a .ld j ≤ l = f .rise in omega arith) (λ i _. o .deaf k i) i m;
+        apart = x;
+      }
+
   keep-a : (exempt : ℕ → Type 0) → ((i : ℕ) → exempt i → (i ≡ j) × (IsQ s → ⊥) × (w j → a .voted j)) → ((i : ℕ) → exempt i → QW s → ⊥)
       → MayAbort a exempt → QWA s → (EC b → ⊥) → MayAbort b nobody
   keep-a exempt h h′ o q x =
       record {
-        none = all (λ i t m. a .runs i → QWA t) (λ r. q) (λ i _. o .none i);
-        deaf = λ k i m. all (λ i t l. a .live MoveP k i → a .runs i → k < l)
-            (λ m r. let d : k < a .ld j = o .deaf k j m r in let u : a .ld j ≤ l = f .rise in omega arith) (λ i _. o .deaf k i) i m;
-        apart = x;
+        decided = keep (o .decided) q x;
         barred = λ i y. ⊎-elim (λ e. absurd (h′ i e (open-j i y (h i e .0)))) (λ u. inr (mute-after exempt h u)) (o .barred i (was-open i y));
       }
 
-  keep-c : MayCommit a → PC s → (EA b → ⊥) → MayCommit b
-  keep-c o q x =
-      record {
-        each = all (λ i t m. a .runs i → PC t) (λ r. q) (λ i _. o .each i);
-        deaf = λ k i m. all (λ i t l. a .live MoveW k i → a .runs i → k < l)
-            (λ m r. let d : k < a .ld j = o .deaf k j m r in let u : a .ld j ≤ l = f .rise in omega arith) (λ i _. o .deaf k i) i m;
-        apart = x;
-      }
-
   abort : EA a ⊎ IsA s → MayAbort b nobody
-  abort (inl e) = keep-a nobody (λ i x. absurd x) (λ i x. absurd x) (v .aborted e) (f .safe .beside-a e) (λ c. ⊎-elim (v .aborted e .apart) (qwa-not-c s (f .safe .beside-a e)) (new IsC IsCommit c))
+  abort (inl e) = keep-a nobody (λ i x. absurd x) (λ i x. absurd x) (v .aborted e) (f .safe .beside-a e) (λ c. ⊎-elim (v .aborted e .decided .apart) (qwa-not-c s (f .safe .beside-a e)) (new IsC IsCommit c))
   abort (inr e) =
       keep-a (λ i. i ≡ j) (λ i y. (y, λ q. qw-not-a s (q-in-qw s q) e, f .silent e)) (λ i _ q. qw-not-a s q e) (f .safe .aborted e) (a-in-qwa s e)
-      (λ c. ⊎-elim (f .safe .aborted e .apart) (qwa-not-c s (a-in-qwa s e)) (new IsC IsCommit c))
+      (λ c. ⊎-elim (f .safe .aborted e .decided .apart) (qwa-not-c s (a-in-qwa s e)) (new IsC IsCommit c))
 
   commit : EC a ⊎ IsC s → MayCommit b
-  commit (inl e) = keep-c (v .committed e) (f .safe .beside-c e) (λ c. ⊎-elim (v .committed e .apart) (pc-not-a s (f .safe .beside-c e)) (new IsA IsAbort c))
-  commit (inr e) = keep-c (f .safe .committed e) (c-in-pc s e) (λ c. ⊎-elim (f .safe .committed e .apart) (pc-not-a s (c-in-pc s e)) (new IsA IsAbort c))
+  commit (inl e) = keep (v .committed e) (f .safe .beside-c e) (λ c. ⊎-elim (v .committed e .apart) (pc-not-a s (f .safe .beside-c e)) (new IsA IsAbort c))
+  commit (inr e) = keep (f .safe .committed e) (c-in-pc s e) (λ c. ⊎-elim (f .safe .committed e .apart) (pc-not-a s (c-in-pc s e)) (new IsA IsAbort c))
 
   own-leader : Lead a j → l ≡ j
   own-leader h = let e : a .ld j ≡ j = h .0 in let u : a .ld j ≤ l = f .rise in let d : l ≤ j = f .own in omega arith

@@ -23,9 +23,7 @@ module _ (a : View) (j : ℕ) where
   pub ease-abort : MayAbort a nobody → MayAbort a self
   ease-abort p =
       record {
-        none = p .none;
-        deaf = p .deaf;
-        apart = p .apart;
+        decided = p .decided;
         barred = λ i o. ⊎-elim (λ e. absurd e) (λ u. inr (record { site = u .site; silent = u .silent; past = λ r q. absurd (u .past r q) })) (p .barred i o);
       }
 
@@ -39,7 +37,7 @@ module _ (a : View) (j : ℕ) where
         prepared = λ p. v .prepared (seen j p);
         aborted = λ p. v .aborted (seen j p);
         committed = λ p. v .committed (seen j p);
-        beside-a = λ e. v .aborted e .none j r;
+        beside-a = λ e. v .aborted e .decided .each j r;
         beside-c = λ e. v .committed e .each j r;
       }
 
@@ -52,7 +50,7 @@ module _ (a : View) {x : ℕ → Type 0} where
   safe-p p n = record { prepared = λ _. p; aborted = λ e. absurd e; committed = λ e. absurd e; beside-a = n; beside-c = λ _. tt }
 
   pub safe-a : MayAbort a x → Safe a A x
-  safe-a o = record { prepared = λ e. absurd e; aborted = λ _. o; committed = λ e. absurd e; beside-a = λ _. tt; beside-c = o .apart }
+  safe-a o = record { prepared = λ e. absurd e; aborted = λ _. o; committed = λ e. absurd e; beside-a = λ _. tt; beside-c = o .decided .apart }
 
   pub safe-c : MayPrepare a x → MayCommit a → Safe a C x
   safe-c p o = record { prepared = λ _. p; aborted = λ e. absurd e; committed = λ _. o; beside-a = o .apart; beside-c = λ _. tt }
@@ -65,9 +63,7 @@ c-is-p a (told κ k j c x) = told κ k j (rw c tt) x
 pub unprepared : (a : View) (j : ℕ) → (EP a → ⊥) → ((i : ℕ) → Open a i → (i ≡ j) ⊎ Mute a (λ i. i ≡ j)) → MayAbort a (λ i. i ≡ j)
 unprepared a j h b =
     record {
-      none = λ i _. rest-in-qwa (a .st i) (λ p. h (seen i p));
-      deaf = λ k i m _. absurd (h (told MoveP k i tt m));
-      apart = λ e. h (c-is-p a e);
+      decided = record { each = λ i _. rest-in-qwa (a .st i) (λ p. h (seen i p)); deaf = λ k i m _. absurd (h (told MoveP k i tt m)); apart = λ e. h (c-is-p a e) };
       barred = b;
     }
 

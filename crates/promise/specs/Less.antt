@@ -4,8 +4,8 @@ use Prim.Native.Nat.{ℕ}
 use mathlib.Core.Path.{_≡_, refl, subst, fun-ext}
 use mathlib.Core.Logic.{_≢_, _⊎_, inl, inr, ⊎-elim}
 use Rattle.site.specs.declared.State.{State}
-use Rattle.promise.specs.Classes.{Kind, Yes, MoveP, MoveW, Ack, IsQ}
-use Rattle.promise.specs.View.{View, Evidence, seen, told, Open, Mute, MayPrepare, MayAbort, MayCommit, nobody, Inv}
+use Rattle.promise.specs.Classes.{Kind, Yes, Ack, IsQ}
+use Rattle.promise.specs.View.{View, Evidence, seen, told, Open, Mute, MayPrepare, Decided, MayAbort, MayCommit, nobody, Inv}
 
 -- b is a with fewer running sites and live messages, the same states and leaders, and the same votes but for those of sites that stop in q.
 pub record Less (b a : View) : Type 0 where
@@ -31,6 +31,10 @@ module _ (a b : View) (h : Less b a) where
   less-open : (j : ℕ) → Open m j → Open a j
   less-open j o = (h .runs j (o .0), o .1)
 
+  less-decided : {S T : State → Type 0} {κ : Kind} {K : Kind → Type 0} → Decided a S κ (Evidence T K (a .st) (a .live)) → Decided m S κ (Evidence T K (a .st) (b .live))
+  less-decided {κ = κ} p =
+      record { each = λ j r. p .each j (h .runs j r); deaf = λ k j x r. p .deaf k j (h .live κ k j x) (h .runs j r); apart = λ e. p .apart (less-evidence e) }
+
   -- an exempt site runs no more, and gives no vote in stopping
   module _ (exempt : ℕ → Type 0) (out : (i : ℕ) → exempt i → b .runs i → ⊥) (dumb : (i : ℕ) → exempt i → b .voted i → a .voted i) where
     less-mute : Mute a exempt → Mute m nobody
@@ -46,20 +50,7 @@ module _ (a b : View) (h : Less b a) where
 
     less-abort : MayAbort a exempt → MayAbort m nobody
     less-abort p =
-        record {
-          none = λ j r. p .none j (h .runs j r);
-          deaf = λ k j x r. p .deaf k j (h .live MoveP k j x) (h .runs j r);
-          apart = λ e. p .apart (less-evidence e);
-          barred = λ j o. ⊎-elim (λ e. absurd (out j e (o .0))) (λ u. inr (less-mute u)) (p .barred j (less-open j o));
-        }
-
-  less-commit : MayCommit a → MayCommit m
-  less-commit p =
-      record {
-        each = λ j r. p .each j (h .runs j r);
-        deaf = λ k j x r. p .deaf k j (h .live MoveW k j x) (h .runs j r);
-        apart = λ e. p .apart (less-evidence e);
-      }
+        record { decided = less-decided (p .decided); barred = λ j o. ⊎-elim (λ e. absurd (out j e (o .0))) (λ u. inr (less-mute u)) (p .barred j (less-open j o)) }
 
   less-m : Inv a → Inv m
   less-m v =
@@ -77,7 +68,7 @@ module _ (a b : View) (h : Less b a) where
         follower = λ k j x r t. v .follower k j (h .live Ack j k x) (h .runs k r) (h .runs j t);
         prepared = λ e. less-prepare nobody (λ i x. absurd x) (λ i x. absurd x) (v .prepared (less-evidence e));
         aborted = λ e. less-abort nobody (λ i x. absurd x) (λ i x. absurd x) (v .aborted (less-evidence e));
-        committed = λ e. less-commit (v .committed (less-evidence e));
+        committed = λ e. less-decided (v .committed (less-evidence e));
       }
 
   pub less : Inv a → Inv b
@@ -122,4 +113,4 @@ module _ (a : View) (k : ℕ) (w : ℕ → Type 0) (r : a .runs k) (g : Votes a 
     stop-abort = less-abort a (stop a k w) stop-less self (λ i e x. x .1 e) dumb
 
     pub stop-commit : MayCommit a → MayCommit (stop a k w)
-    stop-commit = less-commit a (stop a k w) stop-less
+    stop-commit = less-decided a (stop a k w) stop-less

@@ -44,7 +44,7 @@ module _ (n : ℕ) (least : 2 ≤ n) (most : n ≤ 8) (es : List Event) where
   in-state i s p e = state-of r i (p .0) ∙ e
 
   pub agree : (i j : ℕ) → IsSite n i → IsSite n j → stateOf r i ≡ C → stateOf r j ≡ A → ⊥
-  agree i j p q c a = held .inv .aborted (seen j (rw (in-state j A q a) tt)) .apart (seen i (rw (in-state i C p c) tt))
+  agree i j p q c a = held .inv .aborted (seen j (rw (in-state j A q a) tt)) .decided .apart (seen i (rw (in-state i C p c) tt))
 
   -- what every event of a good run keeps holds after further events
   further : (M : Run → Type 0) → ((r : Run) (e : Event) → Good r → M r → M (eventOf r e .run)) → (fs : List Event) → M r → M (reached n (es ++ fs))

@@ -7,8 +7,8 @@ use native.Mathlib.Decide.{ℕ-discrete, decLt}
 use native.Mathlib.Omega.{arith}
 use Rattle.site.specs.declared.State.{State}
 use Rattle.site.specs.declared.State.the-variants.{Q, W, P, A}
-use Rattle.promise.specs.Classes.{Kind, Start, Yes, No, MoveP, MoveW, Ack, Commit, Abort, IsQ, WA, PC, QWA, Order, atOrder, Stands, Relies, First, IsYes, IsAck, Gives, relies-if, order-gives, order-acks, yes-gives, wa-in-qwa, Final, final-is}
-use Rattle.promise.specs.View.{View, seen, told, EA, Lead, Lowest, MayPrepare, MayAbort, MayCommit, Safe, nobody, Inv}
+use Rattle.promise.specs.Classes.{Kind, Start, Yes, No, MoveP, MoveW, Ack, Commit, Abort, IsQ, WA, PC, Order, atOrder, Stands, Relies, First, IsYes, IsAck, Gives, relies-if, order-gives, order-acks, yes-gives, wa-in-qwa, Final, final-is}
+use Rattle.promise.specs.View.{View, seen, told, EA, Lead, Lowest, MayPrepare, Decided, MayAbort, MayCommit, Safe, nobody, Inv}
 use Rattle.promise.specs.Less.{Votes, stop, stop-inv, stop-prepare, stop-abort, stop-commit}
 use Rattle.promise.specs.Become.{upd-same, upd-other, become, Fits, become-inv}
 use Rattle.promise.specs.Send.{send, send-inv}
@@ -52,21 +52,24 @@ module _ (a : View) (j : ℕ) (v : Inv a) (r : a .runs j) where
         go (yes e) (no q) = let c : k < i = v .up κ k i o m in let g : a .ld i ≡ i = rw e (l .0) in omega arith
         go (no e) (no q) = absurd (no′ (obeyed a k i v (omega arith) κ o m j (fol e) r))
 
+    -- where the state of j and those of the others are in S, and an order of kind κ does not go with the state of j
+    settles : {S : State → Type 0} {κ : Kind} {E : Type 0} → Order κ → S (a .st j) → ((i : ℕ) → i ≢ j → a .runs i → (j ≤ a .ld i) × S (a .st i)) → (Stands κ (a .st j) → ⊥) → (E → ⊥) → Decided a S κ E
+    settles {S} {κ} o own fol no′ none =
+        record { each = λ i x. one i x (ℕ-discrete i j); deaf = λ k i m x. none-obeys κ o i k m x (λ e. fol i e x .0) no′; apart = none }
+      where
+        one : (i : ℕ) → a .runs i → Dec (i ≡ j) → S (a .st i)
+        one i x (yes e) = subst (λ (i : ℕ). S (a .st i)) (sym e) own
+        one i x (no e) = fol i e x .1
+
     may-abort : a .st j ≡ W → MayAbort a (λ i. i ≡ j)
     may-abort w =
         record {
-          none = λ i x. one i x (ℕ-discrete i j);
-          deaf = λ k i m x. none-obeys MoveP tt i k m x (λ e. fol i x e .0) (λ z. rw w at z);
-          apart = λ e. rw w at (v .committed e .each j r);
+          decided = settles tt (rw w tt) (λ i e x. (fol i e x .0, wa-in-qwa (a .st i) (fol i e x .1))) (λ z. rw w at z) (λ e. rw w at (v .committed e .each j r));
           barred = λ i o. absurd (alone i (lower i (o .1 .0)) (o .0));
         }
       where
-        fol : (i : ℕ) → a .runs i → i ≢ j → (j ≤ a .ld i) × WA (a .st i)
-        fol i x e = rw w at (v .follower j i (h i e x) r x)
-
-        one : (i : ℕ) → a .runs i → Dec (i ≡ j) → QWA (a .st i)
-        one i x (yes e) = rw (e, w) tt
-        one i x (no e) = wa-in-qwa (a .st i) (fol i x e .1)
+        fol : (i : ℕ) → i ≢ j → a .runs i → (j ≤ a .ld i) × WA (a .st i)
+        fol i e x = rw w at (v .follower j i (h i e x) r x)
 
         lower : (i : ℕ) → i ≡ 1 → i < j
         lower i e = go (ℕ-discrete j 1)
@@ -76,19 +79,7 @@ module _ (a : View) (j : ℕ) (v : Inv a) (r : a .runs j) where
             go (no d) = omega (arith, v .site j r)
 
     may-commit : a .st j ≡ P → MayCommit a
-    may-commit p =
-        record {
-          each = λ i x. one i x (ℕ-discrete i j);
-          deaf = λ k i m x. none-obeys MoveW tt i k m x (λ e. fol i x e .0) (λ z. rw p at z);
-          apart = λ e. rw p at (v .aborted e .none j r);
-        }
-      where
-        fol : (i : ℕ) → a .runs i → i ≢ j → (j ≤ a .ld i) × PC (a .st i)
-        fol i x e = rw p at (v .follower j i (h i e x) r x)
-
-        one : (i : ℕ) → a .runs i → Dec (i ≡ j) → PC (a .st i)
-        one i x (yes e) = rw (e, p) tt
-        one i x (no e) = fol i x e .1
+    may-commit p = settles tt (rw p tt) (λ i e x. rw p at (v .follower j i (h i e x) r x)) (λ z. rw p at z) (λ e. rw p at (v .aborted e .decided .each j r))
 
 -- What a step that gives an order says of it.
 pub record Ordered (a : View) (j : ℕ) (s : State) (l : ℕ) (κ : Kind) (T : ℕ → Type 0) : Type 0 where
@@ -139,7 +130,7 @@ module _ (a : View) (j : ℕ) (v : Inv a) (r : a .runs j) where
   safe (start-no h ne q m t) = q-aborts q
   safe (give-up e w l t) = safe-a a (by-open a j v r (e, rw w tt))
   safe (prepare e w l h t) = safe-p a (all-prepare a j v r (e, rw w tt) w h) (none-aborted a j v r (e, rw w tt) w h)
-  safe (move-p {k} h1 h m w t) = safe-p a (ease-prepare a j (v .prepared (told MoveP k j tt m))) (λ e. let c : k < a .ld j = v .aborted e .deaf k j m r in omega arith)
+  safe (move-p {k} h1 h m w t) = safe-p a (ease-prepare a j (v .prepared (told MoveP k j tt m))) (λ e. let c : k < a .ld j = v .aborted e .decided .deaf k j m r in omega arith)
   safe (stay-p h1 h m e p t) = kept e
   safe (move-w {k} h1 h m q t) = safe-w a (λ e. let c : k < a .ld j = v .committed e .deaf k j m r in omega arith)
   safe (stay-w h1 h m e t) = kept e
@@ -218,7 +209,7 @@ module _ (a : View) (j : ℕ) (v : Inv a) (r : a .runs j) where
         above1 e = let c : k < j = v .up MoveW k j tt m in omega arith
     fits (stay-w {k} h1 h m e t) y n = following k h (omega (arith, v .up MoveW k j tt m)) (n (λ x. x)) e
     fits (commit {k} h1 h m z) y n = fits-c a j k w v r g h (omega (arith, v .up Commit k j tt m)) (v .committed (told Commit k j refl m) .each j r)
-    fits (abort {k} h1 h m z) y n = fits-a a j k w v r g h (omega (arith, v .up Abort k j tt m)) (v .aborted (told Abort k j refl m) .none j r) (n (λ x. x))
+    fits (abort {k} h1 h m z) y n = fits-a a j k w v r g h (omega (arith, v .up Abort k j tt m)) (v .aborted (told Abort k j refl m) .decided .each j r) (n (λ x. x))
     fits (over-q h1 h d q t) y n = fits-a a j j w v r g (omega arith) (omega arith) (rw q tt) (n (λ x. x))
     fits {κ = κ} (over o h1 h d e t) y n = following j (omega arith) (omega arith) (n (order-gives κ o)) e
     fits (end-a l q h t) y n = fits-a a j (a .ld j) w v r g (omega arith) (v .low j) (rw q tt) (n (λ x. x))
@@ -311,7 +302,7 @@ module _ (a : View) (j : ℕ) (T : ℕ → Type 0) (v : Inv a) (r : a .runs j) w
   settled (move-w h1 h m q t) f = absurd (⊎-elim (λ d. rw d at q) (λ d. rw d at q) (final-is (a .st j) f))
   settled (stay-w h1 h m e t) f = sym e
   settled (commit {k} h1 h m z) f = ⊎-elim (λ d. absurd (rw d at (v .committed (told Commit k j refl m) .each j r))) sym (final-is (a .st j) f)
-  settled (abort {k} h1 h m z) f = ⊎-elim sym (λ d. absurd (rw d at (v .aborted (told Abort k j refl m) .none j r))) (final-is (a .st j) f)
+  settled (abort {k} h1 h m z) f = ⊎-elim sym (λ d. absurd (rw d at (v .aborted (told Abort k j refl m) .decided .each j r))) (final-is (a .st j) f)
   settled (over-q h1 h n q t) f = absurd (rw q at f)
   settled (over o h1 h n e t) f = sym e
   settled (end-a l w h t) f = absurd (rw w at f)

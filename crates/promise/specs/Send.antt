@@ -4,8 +4,8 @@ use Prim.Native.Nat.{ℕ, _<_}
 use mathlib.Core.Path.{_≡_, sym, subst}
 use mathlib.Core.Logic.{_⊎_, inl, inr, ⊎-elim}
 use Rattle.site.specs.declared.State.{State}
-use Rattle.promise.specs.Classes.{Kind, Yes, MoveP, MoveW, Ack, IsA, IsC, PC, Order, Prepares, Yields, IsYes, IsAck, IsCommit, IsAbort, atOrder, Stands, Relies, prepares-order, yields-order, pc-not-qwa, pc-not-wa}
-use Rattle.promise.specs.View.{View, Evidence, seen, told, EP, EA, EC, Lead, Lowest, Mute, MayPrepare, MayAbort, MayCommit, Safe, nobody, Inv}
+use Rattle.promise.specs.Classes.{Kind, Yes, MoveP, Ack, IsA, IsC, PC, Order, Prepares, Yields, IsYes, IsAck, IsCommit, IsAbort, atOrder, Stands, Relies, prepares-order, yields-order, pc-not-qwa, pc-not-wa}
+use Rattle.promise.specs.View.{View, Evidence, seen, told, EP, EA, EC, Lead, Lowest, Mute, MayPrepare, Decided, MayAbort, MayCommit, Safe, nobody, Inv}
 
 -- Messages of kind κ from k to the sites of R, beside the live ones.
 abbrev pub send : View → Kind → ℕ → (ℕ → Type 0) → View
@@ -49,17 +49,11 @@ module _ (a : View) (κ : Kind) (k : ℕ) (R : ℕ → Type 0) (v : Inv a) (m : 
   mute : Mute a nobody → Mute b nobody
   mute u = record { site = u .site; silent = u .silent; past = u .past }
 
-  abort : (κ ≡ MoveP → ⊥) → (EC b → ⊥) → MayAbort a nobody → MayAbort b nobody
-  abort n x p =
-      record {
-        none = p .none;
-        deaf = msg MoveP (λ i j. a .runs j → i < a .ld j) (p .deaf) (λ e. absurd (n e));
-        apart = x;
-        barred = λ j o. ⊎-elim (λ e. inl e) (λ u. inr (mute u)) (p .barred j o);
-      }
+  decided : {S : State → Type 0} {κ′ : Kind} {E F : Type 0} → (κ ≡ κ′ → ⊥) → (F → ⊥) → Decided a S κ′ E → Decided b S κ′ F
+  decided {κ′ = κ′} n x p = record { each = p .each; deaf = msg κ′ (λ i j. a .runs j → i < a .ld j) (p .deaf) (λ e. absurd (n e)); apart = x }
 
-  commit : (κ ≡ MoveW → ⊥) → (EA b → ⊥) → MayCommit a → MayCommit b
-  commit n x p = record { each = p .each; deaf = msg MoveW (λ i j. a .runs j → i < a .ld j) (p .deaf) (λ e. absurd (n e)); apart = x }
+  abort : (κ ≡ MoveP → ⊥) → (EC b → ⊥) → MayAbort a nobody → MayAbort b nobody
+  abort n x p = record { decided = decided n x (p .decided); barred = λ j o. ⊎-elim (λ e. inl e) (λ u. inr (mute u)) (p .barred j o) }
 
   beside-p : EA a → Prepares κ → ⊥
   beside-p e c = pc-not-qwa (atOrder κ) c (m .ready (prepares-order κ c) .beside-a e)
@@ -73,17 +67,17 @@ module _ (a : View) (κ : Kind) (k : ℕ) (R : ℕ → Type 0) (v : Inv a) (m : 
 
   aborted-after : EA a ⊎ IsAbort κ → MayAbort b nobody
   aborted-after (inl e) =
-      abort (λ c. beside-p e (rw c tt)) (λ x. ⊎-elim (v .aborted e .apart) (λ c. beside-p e (rw c tt)) (new IsC IsCommit x)) (v .aborted e)
+      abort (λ c. beside-p e (rw c tt)) (λ x. ⊎-elim (v .aborted e .decided .apart) (λ c. beside-p e (rw c tt)) (new IsC IsCommit x)) (v .aborted e)
   aborted-after (inr c) =
       let p : MayAbort a nobody = m .ready (rw c tt) .aborted (rw c tt) in
-      abort (λ d. subst Yields d (rw c tt)) (λ x. ⊎-elim (p .apart) (λ d. subst Yields d (rw c tt)) (new IsC IsCommit x)) p
+      abort (λ d. subst Yields d (rw c tt)) (λ x. ⊎-elim (p .decided .apart) (λ d. subst Yields d (rw c tt)) (new IsC IsCommit x)) p
 
   committed-after : EC a ⊎ IsCommit κ → MayCommit b
   committed-after (inl e) =
-      commit (λ c. beside-y e (rw c tt)) (λ x. ⊎-elim (v .committed e .apart) (λ c. beside-y e (rw c tt)) (new IsA IsAbort x)) (v .committed e)
+      decided (λ c. beside-y e (rw c tt)) (λ x. ⊎-elim (v .committed e .apart) (λ c. beside-y e (rw c tt)) (new IsA IsAbort x)) (v .committed e)
   committed-after (inr c) =
       let p : MayCommit a = m .ready (rw c tt) .committed (rw c tt) in
-      commit (λ d. subst Prepares d (rw c tt)) (λ x. ⊎-elim (p .apart) (λ d. subst Prepares d (rw c tt)) (new IsA IsAbort x)) p
+      decided (λ d. subst Prepares d (rw c tt)) (λ x. ⊎-elim (p .apart) (λ d. subst Prepares d (rw c tt)) (new IsA IsAbort x)) p
 
   pub send-inv : Inv b
   send-inv =

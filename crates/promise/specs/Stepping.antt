@@ -418,7 +418,7 @@ module _ (w : ℕ → Type 0) (r : Run) (g : Sound r) (u : Inv (viewOf w r)) (j 
           go Q e h = absurd (u .unvoted j x (rw (st-is ∙ e) tt) (u .prepared (told-by MoveP from j tt (inl m)) .all j))
           go W e h = follows-order MoveP P (weightOf from) Taken 6 (inl refl) to-run (does.move-p (at .least) (up h) (inl m) (st-is ∙ e) to-sender)
           go P e h = follows-order MoveP P (weightOf from) Taken 6 (inl refl) to-run (does.stay-p (at .least) (up h) (inl m) (st-is ∙ e) tt to-sender)
-          go A e h = absurd (not-below h (u .aborted (seen-at j (rw (st-is ∙ e) tt)) .deaf from j (inl m) x))
+          go A e h = absurd (not-below h (u .aborted (seen-at j (rw (st-is ∙ e) tt)) .decided .deaf from j (inl m) x))
           go C e h = follows-order MoveP C (weightOf from) Taken 6 (inl refl) to-run (does.stay-p (at .least) (up h) (inl m) (st-is ∙ e) tt to-sender)
 
       move-w : Out (r .net) 5 from j → M (step.Deliver 5 from) (obeyOf s 5 from)
@@ -449,11 +449,11 @@ module _ (w : ℕ → Type 0) (r : Run) (g : Sound r) (u : Inv (viewOf w r)) (j 
           go : (q : State) → s .state ≡ q → s .leader ≤ from → M (step.Deliver 8 from) (obeyed (orderAt 8 q) s 8 from)
           go Q e h = follows-order Abort A 0 Taken 0 (inr in-none) to-none (does.abort (at .least) (up h) (inl m) in-none)
           go W e h = follows-order Abort A 0 Taken 0 (inr in-none) to-none (does.abort (at .least) (up h) (inl m) in-none)
-          go P e h = absurd (rw (st-is ∙ e) at (u .aborted (told-by Abort from j refl (inl m)) .none j x))
+          go P e h = absurd (rw (st-is ∙ e) at (u .aborted (told-by Abort from j refl (inl m)) .decided .each j x))
           go A e h =
               subst (λ (q : State). Stepped (step.Deliver 8 from) (record { site = following (inState s q) from; outcome = Passed; kind = 0; to = 0 })) (sym e)
               (follows-order Abort A 0 Passed 0 (inr in-none) to-none (does.abort (at .least) (up h) (inl m) in-none))
-          go C e h = absurd (rw (st-is ∙ e) at (u .aborted (told-by Abort from j refl (inl m)) .none j x))
+          go C e h = absurd (rw (st-is ∙ e) at (u .aborted (told-by Abort from j refl (inl m)) .decided .each j x))
 
   named : (i : ℕ) → inRun s i ≡ true → Site i
   named i h = record { least = in-run s i h .0; most = omega (arith, in-run s i h .1, sound .most) }

@@ -54,25 +54,21 @@ pub record MayPrepare (a : View) (exempt : ℕ → Type 0) : Type 0 where
   -- no site may still prepare by the first phase
   pub shut : (j : ℕ) → Open a j → exempt j
 
--- What must hold where some site aborted.
+-- What must hold where some site decided: every running site is in a state of the class S, none will obey an order of kind κ, and there is no E.
+pub record Decided (a : View) (S : State → Type 0) (κ : Kind) (E : Type 0) : Type 0 where
+  pub each : (j : ℕ) → a .runs j → S (a .st j)
+  pub deaf : (k j : ℕ) → a .live κ k j → a .runs j → k < a .ld j
+  pub apart : E → ⊥
+
+-- Where some site aborted, no running site is in p or c, none will obey a Move-p, and no site committed.
 pub record MayAbort (a : View) (exempt : ℕ → Type 0) : Type 0 where
-  -- no running site is in p or c
-  pub none : (j : ℕ) → a .runs j → QWA (a .st j)
-  -- no running site will obey a Move-p
-  pub deaf : (k j : ℕ) → a .live MoveP k j → a .runs j → k < a .ld j
-  -- no site committed
-  pub apart : EC a → ⊥
+  pub decided : Decided a QWA MoveP (EC a)
   -- where a site may still prepare by the first phase, some site will never have voted yes
   pub barred : (j : ℕ) → Open a j → exempt j ⊎ Mute a exempt
 
--- What must hold where some site committed.
-pub record MayCommit (a : View) : Type 0 where
-  -- every running site is in p or c
-  pub each : (j : ℕ) → a .runs j → PC (a .st j)
-  -- no running site will obey a Move-w
-  pub deaf : (k j : ℕ) → a .live MoveW k j → a .runs j → k < a .ld j
-  -- no site aborted
-  pub apart : EA a → ⊥
+-- Where some site committed, every running site is in p or c, none will obey a Move-w, and no site aborted.
+abbrev pub MayCommit : View → Type 0
+MayCommit a = Decided a PC MoveW (EA a)
 
 -- When a state s is safe to come to, or to give its order in: as evidence, and beside the evidence there is.
 pub record Safe (a : View) (s : State) (exempt : ℕ → Type 0) : Type 0 where
