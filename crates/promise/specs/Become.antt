@@ -152,7 +152,7 @@ module _ (a : View) (j : ℕ) (s : State) (l : ℕ) (w : ℕ → Type 0) (v : In
         waiting = λ i o. all (λ i t m. a .runs i × First i t → IsW t → w i) (λ o. f .waiting (o .1)) (λ i _ o q. f .votes .old i (v .waiting i o q)) i o;
         yes = λ k i x. f .votes .old k (v .yes k i x);
         orders = λ κ k i o x. all (λ k t m. a .live κ k i → a .runs k → Leads k t m × Stands κ t)
-            (λ x r. let h = v .orders κ j i o x r in (still-leads (h .0), onward-stands (f .lead (h .0)) κ o (h .1)))
+            (λ x r. let h = v .orders κ j i o x r in (still-leads (h .0), onward-stands (f .lead (h .0)) κ (h .1)))
             (λ k _ x. v .orders κ k i o x) k x;
         leader = λ k i x. all (λ k t m. a .live Ack i k → a .runs k → Leads k t m) (λ x r. still-leads (v .leader j i x r)) (λ k _ x. v .leader k i x) k x;
         follower = λ k i x. all (λ k t m. a .live Ack i k → a .runs k → a .runs i → Relies t k (b .st i) (b .ld i))

@@ -130,32 +130,21 @@ pub data Onward : State → State → Type 0 where
   gives-up : Onward W A
   commits : Onward P C
 
-pub onward-stands : {s t : State} → Onward s t → (κ : Kind) → Order κ → Stands κ s → Stands κ t
-onward-stands stays κ o x = x
-onward-stands drops MoveP o x = absurd x
-onward-stands drops MoveW o x = absurd x
-onward-stands drops Commit o x = absurd x
-onward-stands drops Abort o x = absurd x
-onward-stands drops Start o x = absurd o
-onward-stands drops Yes o x = absurd o
-onward-stands drops No o x = absurd o
-onward-stands drops Ack o x = absurd o
-onward-stands gives-up MoveP o x = absurd x
-onward-stands gives-up MoveW o x = tt
-onward-stands gives-up Commit o x = absurd x
-onward-stands gives-up Abort o x = absurd x
-onward-stands gives-up Start o x = absurd o
-onward-stands gives-up Yes o x = absurd o
-onward-stands gives-up No o x = absurd o
-onward-stands gives-up Ack o x = absurd o
-onward-stands commits MoveP o x = tt
-onward-stands commits MoveW o x = absurd x
-onward-stands commits Commit o x = absurd x
-onward-stands commits Abort o x = absurd x
-onward-stands commits Start o x = absurd o
-onward-stands commits Yes o x = absurd o
-onward-stands commits No o x = absurd o
-onward-stands commits Ack o x = absurd o
+onward-in : {s t : State} → Onward s t → (PC s → PC t) × (WA s → WA t) × (IsC s → IsC t) × (IsA s → IsA t)
+onward-in stays = (λ x. x, λ x. x, λ x. x, λ x. x)
+onward-in drops = (λ x. x, λ _. tt, λ x. x, λ _. tt)
+onward-in gives-up = (λ x. x, λ _. tt, λ x. x, λ _. tt)
+onward-in commits = (λ _. tt, λ x. x, λ _. tt, λ x. x)
+
+pub onward-stands : {s t : State} → Onward s t → (κ : Kind) → Stands κ s → Stands κ t
+onward-stands h MoveP x = onward-in h .0 x
+onward-stands h MoveW x = onward-in h .1 x
+onward-stands h Commit x = onward-in h .2 x
+onward-stands h Abort x = onward-in h .3 x
+onward-stands h Start x = x
+onward-stands h Yes x = x
+onward-stands h No x = x
+onward-stands h Ack x = x
 
 pub onward-first : {s t : State} {k : ℕ} → Onward s t → First k t → First k s
 onward-first stays f = f
