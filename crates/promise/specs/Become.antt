@@ -10,6 +10,14 @@ use Rattle.promise.specs.Classes.{Kind, Ack, IsQ, IsW, IsA, IsC, PC, QW,
 use Rattle.promise.specs.View.{View, Evidence, seen, told, EP, EA, EC, Open, Lead, Mute, MayPrepare, Decided, MayAbort, MayCommit, Safe, nobody, Inv}
 use Rattle.promise.specs.Less.{Votes}
 
+-- What holds of j and of every other number holds of each.
+pub by-site : (M : ℕ → Type 0) (j : ℕ) → M j → ((i : ℕ) → i ≢ j → M i) → (i : ℕ) → M i
+by-site M j x y i = go (ℕ-discrete i j)
+  where
+    go : Dec (i ≡ j) → M i
+    go (yes e) = subst M (sym e) x
+    go (no ne) = y i ne
+
 pick : {T : Type 0} {i j : ℕ} → Dec (i ≡ j) → T → T → T
 pick (yes e) x y = x
 pick (no e) x y = y

@@ -5,7 +5,6 @@ use mathlib.Core.Bool.{true, not, _&&_}
 use mathlib.Core.List.{List, [], _∷_}
 use mathlib.Core.Path.{_≡_, refl, sym, ap, subst, _∙_}
 use mathlib.Core.Logic.{_≢_, _⊎_, inl, inr, ⊎-elim}
-use native.Mathlib.Decide.{ℕ-discrete}
 use native.Mathlib.Omega.{arith}
 use lib.Dec.{eqb, lit≤}
 use lib.ListN.{length, length-map}
@@ -30,6 +29,7 @@ use Rattle.promise.specs.SetsMembers.{In, minus-in, both-l, in-with, wit
 use Rattle.promise.specs.RunViews.{recordOf, Runs, stoppedNet}
 use Rattle.run.specs.SoundLaws.{sound-parts}
 use Rattle.promise.specs.RunEvents.{Allowed, Denied, Halted, Unhalted, decide, decide-stop}
+use Rattle.promise.specs.Become.{by-site}
 use Rattle.promise.specs.Seen.{number, viewOf}
 use Rattle.promise.specs.Brings.{Notices, weigh, netWorth, newsWorth}
 use Rattle.promise.specs.Stepping.{in-run}
@@ -142,11 +142,10 @@ module _ (w : ℕ → Type 0) (r : Run) (h : Held w r) (s : ℕ) (t : Step) (al 
       )
 
   more : (i k : ℕ) → In (recordOf (r .sites) i .known) k → In (recordOf (q .sites) i .known) k
-  more i k x = go (ℕ-discrete i s)
-    where
-      go : Dec (i ≡ s) → In (recordOf (q .sites) i .known) k
-      go (no ne) = subst (λ (a : Record). In (a .known) k) (sym (still i ne)) x
-      go (yes e) = subst (λ (i : ℕ). In (recordOf (q .sites) i .known) k) (sym e) (subst (λ (a : Record). In (a .known) k) (sym new) (y .holds .knows k (subst (λ (a : Record). In (a .known) k) here (rw e at x))))
+  more i k =
+      by-site (λ i. In (recordOf (r .sites) i .known) k → In (recordOf (q .sites) i .known) k) s
+      (λ x. subst (λ (a : Record). In (a .known) k) (sym new) (y .holds .knows k (subst (λ (a : Record). In (a .known) k) here x)))
+      (λ i ne x. subst (λ (a : Record). In (a .known) k) (sym (still i ne)) x) i
 
   none-rises : pairs q ≤ pairs r
   none-rises = pairs-le r q refl (λ i x. x) more

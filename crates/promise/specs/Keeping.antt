@@ -5,7 +5,6 @@ use mathlib.Core.Bool.{Bool, true, cond}
 use mathlib.Core.List.{List, [], _∷_}
 use mathlib.Core.Path.{_≡_, refl, sym, ap, subst, _∙_}
 use mathlib.Core.Logic.{_≢_, _⊎_, inl, inr, ⊎-elim}
-use native.Mathlib.Decide.{ℕ-discrete}
 use native.Mathlib.Omega.{arith}
 use lib.Dec.{eqb}
 use lib.ListN.{length, length-set, length-map}
@@ -34,7 +33,7 @@ use Rattle.promise.specs.RunEvents.{Accepted, Allowed, Denied, Halted, d
 use Rattle.promise.specs.Classes.{IsYes, Gives, IsQ, order-gives, yes-gives}
 use Rattle.promise.specs.View.{Inv}
 use Rattle.promise.specs.Less.{Less, less, stop, Votes, stop-inv}
-use Rattle.promise.specs.Become.{become}
+use Rattle.promise.specs.Become.{by-site, become}
 use Rattle.promise.specs.Send.{send}
 use Rattle.promise.specs.Safety.{whole, cut}
 use Rattle.promise.specs.Seen.{number, viewOf, wholeRun, wholly-less, stopped-view, partRun, partly-less}
@@ -209,16 +208,13 @@ module _ (w : ℕ → Type 0) (r : Run) (h : Held w r) (s : ℕ) (t : Step) (al 
     votes =
         record {
           old = λ i f p q. inl (f p q);
-          new = λ i f. go i f (ℕ-discrete i s);
+          new = by-site (λ i. (1 ≤ i → i ≤ r .n → With w v i) → viewOf w r .voted i ⊎ ((i ≡ s) × IsQ (viewOf w r .st s))) s (λ f. at-s (f (al .runs .least) (al .runs .most)))
+              (λ i ne f. inl (λ p q. ⊎-elim (λ y. y) (λ y. absurd (ne (who i y .0))) (f p q)));
         }
       where
         at-s : w s ⊎ v s → viewOf w r .voted s ⊎ ((s ≡ s) × IsQ (viewOf w r .st s))
         at-s (inl y) = inl (λ _ _. y)
         at-s (inr y) = inr (refl, given y .1)
-
-        go : (i : ℕ) → (1 ≤ i → i ≤ r .n → With w v i) → Dec (i ≡ s) → viewOf w r .voted i ⊎ ((i ≡ s) × IsQ (viewOf w r .st s))
-        go i f (no ne) = inl (λ p q. ⊎-elim (λ y. y) (λ y. absurd (ne (who i y .0))) (f p q))
-        go i f (yes e) = subst (λ (i : ℕ). (1 ≤ i → i ≤ r .n → With w v i) → viewOf w r .voted i ⊎ ((i ≡ s) × IsQ (viewOf w r .st s))) (sym e) (λ f. at-s (f (al .runs .least) (al .runs .most))) f
 
     quiet : (Gives (seen .κ) → ⊥) → viewOf (With w v) r .voted s → viewOf w r .voted s
     quiet n f p q = ⊎-elim (λ y. y) (λ y. absurd (n (given y .0))) (f p q)

@@ -9,6 +9,7 @@ use Rattle.site.specs.declared.State.{State}
 use Rattle.site.specs.declared.State.the-variants.{Q, W, P, A, C}
 use Rattle.promise.specs.Classes.{Kind, Start, Yes, No, MoveP, MoveW, Ack, Commit, Abort, byKind, IsQ, IsW, IsA, IsC, QW, WP, IsAck, Order, atOrder, First, Leads, q-in-qw, w-in-qw, a-final, c-final, is-w, is-a, is-c, wpac-not-q, same-order}
 use Rattle.promise.specs.View.{View, Lowest, Inv}
+use Rattle.promise.specs.Become.{by-site}
 use Rattle.promise.specs.Does.{Everyone, Idle, Uses, nothing, notes, message, Does, begin-yes, begin-no, start-yes, start-no, give-up, prepare, move-p, stay-p, move-w, stay-w, commit, abort, over-q, over, end-a, end-c, noted, passed}
 use Rattle.promise.specs.Safety.{alone, settled}
 
@@ -314,23 +315,15 @@ module _ (a : View) (j : ℕ) (T : ℕ → Type 0) (v : Inv a) (r : a .runs j) w
     pub owed-step : Owed b
     owed-step =
         record {
-          below = λ i. below i (ℕ-discrete i j);
-          left = λ k x. left k x (ℕ-discrete k j);
+          below = by-site (λ i. Lowest b (b .ld i)) j (λ k q x. follows o c k (rw (h .ld) at q) (h .runs k x)) (λ i ne k q x. o .below i k (rw (h .ld-other i ne) at q) (h .runs k x));
+          left = by-site (λ k. b .runs k → b .ld k ≡ k → k ≢ 1 → IsQ (b .st k) → ⊥) j (λ _ e n q. at (sym (h .ld) ∙ e) n (rw (h .st) at q) (announces c))
+              (λ k ne x e n q. o .left k (h .runs k x) (sym (h .ld-other k ne) ∙ e) n (rw (h .st-other k ne) at q));
           due = λ k i x z ne. due k i x z ne (ℕ-discrete k j) (ℕ-discrete i j);
         }
       where
-        below : (i : ℕ) → Dec (i ≡ j) → Lowest b (b .ld i)
-        below i (yes e) k q x = follows o c k (rw (e, h .ld) at q) (h .runs k x)
-        below i (no ne) k q x = o .below i k (rw (h .ld-other i ne) at q) (h .runs k x)
-
-        left : (k : ℕ) → b .runs k → Dec (k ≡ j) → b .ld k ≡ k → k ≢ 1 → IsQ (b .st k) → ⊥
-        left k x (no ne) e n q = o .left k (h .runs k x) (sym (h .ld-other k ne) ∙ e) n (rw (h .st-other k ne) at q)
-        left k x (yes d) e n q =
-            at (sym (h .ld) ∙ (subst (λ (i : ℕ). b .ld i ≡ i) d e)) (λ z. n (d ∙ z)) (rw (h .st) at (subst (λ (i : ℕ). IsQ (b .st i)) d q)) (announces c)
-          where
-            at : l ≡ j → j ≢ 1 → IsQ s → ((s ≡ a .st j) × (l ≡ a .ld j) × (κ ≡ Ack)) ⊎ Announced s l κ → ⊥
-            at e n q (inl z) = o .left j r (sym (z .1) ∙ e) n (rw (z .0) at q)
-            at e n q (inr z) = z .left e n q
+        at : l ≡ j → j ≢ 1 → IsQ s → ((s ≡ a .st j) × (l ≡ a .ld j) × (κ ≡ Ack)) ⊎ Announced s l κ → ⊥
+        at e n q (inl z) = o .left j r (sym (z .1) ∙ e) n (rw (z .0) at q)
+        at e n q (inr z) = z .left e n q
 
         due : (k i : ℕ) → b .runs k → b .runs i → k ≢ i → Dec (k ≡ j) → Dec (i ≡ j) → Due (b .live) k (b .st k) (b .ld k) i (b .st i)
         due k i x z ne (yes p) (yes q) = absurd (ne (p ∙ sym q))

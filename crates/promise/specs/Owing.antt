@@ -4,7 +4,6 @@ use Prim.Native.Nat.{ℕ, _≤_}
 use mathlib.Core.List.{List, [], _∷_}
 use mathlib.Core.Path.{_≡_, refl, sym, ap, subst, _∙_}
 use mathlib.Core.Logic.{_≢_, _⊎_, inl, inr, ⊎-elim}
-use native.Mathlib.Decide.{ℕ-discrete}
 use native.Mathlib.Omega.{arith}
 use lib.ListN.{length, length-map}
 use Rattle.sets.specs.Sets.{minus}
@@ -27,6 +26,7 @@ use Rattle.promise.specs.RunEvents.{Allowed, Halted, decide, decide-stop
 use Rattle.promise.specs.Classes.{Kind, Start, Yes, No, MoveP, MoveW, Ack, Commit, Abort}
 use Rattle.promise.specs.Does.{message}
 use Rattle.promise.specs.Owed.{Owed, After, owed-stopped, owed-step}
+use Rattle.promise.specs.Become.{by-site}
 use Rattle.promise.specs.Seen.{number, Recorded, viewOf, still-runs, stopped-view}
 use Rattle.promise.specs.Brings.{Delivers}
 use Rattle.promise.specs.Keeping.{Held, by-delivery, delivered-len, doneAt, kindAt, wholeAt, leaving, partAt, Known, known, whole-less, part-less, Now, With, keeps}
@@ -84,11 +84,9 @@ module _ (w : ℕ → Type 0) (r : Run) (h : Held w r) (s : ℕ) (t : Step) (al 
     where
       used : (i ≡ s) × Delivers t (number c) k → viewOf w q .live c k i ⊎ ((i ≡ s) × (y .uses ≡ message c k))
       used z = ⊎-elim (λ u. inr (z .0, u)) (λ u. inl (subst (λ (i : ℕ). viewOf w q .live c k i) (sym (z .0)) (recorded c k u))) (y .spends .used c k (z .1))
-  stay c k i (inr x) = inl (go (ℕ-discrete i s))
-    where
-      go : Dec (i ≡ s) → viewOf w q .live c k i
-      go (no ne) = inr (subst (λ (a : Record). Recorded c a k) (sym (still i ne)) x)
-      go (yes e) = subst (λ (i : ℕ). viewOf w q .live c k i) (sym e) (recorded c k (y .holds .kept c k (subst (λ (a : Record). Recorded c a k) here (subst (λ (i : ℕ). Recorded c (recordOf (r .sites) i) k) e x))))
+  stay c k i (inr x) =
+      inl (by-site (λ i. Recorded c (recordOf (r .sites) i) k → viewOf w q .live c k i) s (λ x. recorded c k (y .holds .kept c k (subst (λ (a : Record). Recorded c a k) here x)))
+      (λ i ne x. inr (subst (λ (a : Record). Recorded c a k) (sym (still i ne)) x)) i x)
 
   come : (i : ℕ) → Runs q i → In (d .to) i → viewOf w q .live (y .κ) s i
   come i x z =

@@ -10,7 +10,7 @@ use Rattle.site.specs.declared.State.the-variants.{Q, W, P, A}
 use Rattle.promise.specs.Classes.{Kind, Start, Yes, No, MoveP, MoveW, Ack, Commit, Abort, IsQ, WA, PC, Order, atOrder, Stands, Relies, First, IsYes, IsAck, Gives, relies-if, order-gives, order-acks, yes-gives, wa-in-qwa, Final, final-is}
 use Rattle.promise.specs.View.{View, seen, told, EA, Lead, Lowest, MayPrepare, Decided, MayAbort, MayCommit, Safe, nobody, Inv}
 use Rattle.promise.specs.Less.{Votes, stop, stop-inv, stop-prepare, stop-abort, stop-commit}
-use Rattle.promise.specs.Become.{upd-same, upd-other, become, Fits, become-inv}
+use Rattle.promise.specs.Become.{by-site, upd-same, upd-other, become, Fits, become-inv}
 use Rattle.promise.specs.Send.{send, send-inv}
 use Rattle.promise.specs.Does.{Only, Uses, Does, begin-yes, begin-no, start-yes, start-no, give-up, prepare, move-p, stay-p, move-w, stay-w, commit, abort, over-q, over, end-a, end-c, noted, passed}
 use Rattle.promise.specs.Fitting.{ease-prepare, ease-abort, ease, standing, safe-w, safe-p, safe-a, safe-c, unprepared, fits-same, fits-a, fits-c, fits-w, fits-p, relies-q, obeyed, obey-p, obey-w}
@@ -26,11 +26,7 @@ module _ (a : View) (j : ℕ) (v : Inv a) (r : a .runs j) where
   -- site j in its first phase in w, to which all others said Yes, may prepare
   module _ (f : First j (a .st j)) (w : a .st j ≡ W) (h : (i : ℕ) → i ≢ j → a .live Yes i j ⊎ a .voted i) where
     all-voted : (i : ℕ) → a .voted i
-    all-voted i = go (ℕ-discrete i j)
-      where
-        go : Dec (i ≡ j) → a .voted i
-        go (yes e) = rw e (v .waiting j (r, f) (rw w tt))
-        go (no e) = ⊎-elim (v .yes i j) (λ x. x) (h i e)
+    all-voted = by-site (a .voted) j (v .waiting j (r, f) (rw w tt)) (λ i e. ⊎-elim (v .yes i j) (λ x. x) (h i e))
 
     all-prepare : MayPrepare a (λ i. i ≡ j)
     all-prepare = record { all = all-voted; shut = λ i o. o .1 .0 ∙ sym (f .0) }
@@ -55,11 +51,11 @@ module _ (a : View) (j : ℕ) (v : Inv a) (r : a .runs j) where
     -- where the state of j and those of the others are in S, and an order of kind κ does not go with the state of j
     settles : {S : State → Type 0} {κ : Kind} {E : Type 0} → Order κ → S (a .st j) → ((i : ℕ) → i ≢ j → a .runs i → (j ≤ a .ld i) × S (a .st i)) → (Stands κ (a .st j) → ⊥) → (E → ⊥) → Decided a S κ E
     settles {S} {κ} o own fol no′ none =
-        record { each = λ i x. one i x (ℕ-discrete i j); deaf = λ k i m x. none-obeys κ o i k m x (λ e. fol i e x .0) no′; apart = none }
-      where
-        one : (i : ℕ) → a .runs i → Dec (i ≡ j) → S (a .st i)
-        one i x (yes e) = subst (λ (i : ℕ). S (a .st i)) (sym e) own
-        one i x (no e) = fol i e x .1
+        record {
+          each = by-site (λ i. a .runs i → S (a .st i)) j (λ _. own) (λ i e x. fol i e x .1);
+          deaf = λ k i m x. none-obeys κ o i k m x (λ e. fol i e x .0) no′;
+          apart = none;
+        }
 
     may-abort : a .st j ≡ W → MayAbort a (λ i. i ≡ j)
     may-abort w =

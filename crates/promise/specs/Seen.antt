@@ -5,7 +5,6 @@ use mathlib.Core.Bool.{cond}
 use mathlib.Core.List.{List}
 use mathlib.Core.Path.{_≡_, refl, sym, ap, subst, _∙_}
 use mathlib.Core.Logic.{_≢_, _⊎_, inl, inr, ⊎-elim}
-use native.Mathlib.Decide.{ℕ-discrete}
 use native.Mathlib.Omega.{arith}
 use lib.Dec.{eqb}
 use lib.ListN.{length, set, length-map}
@@ -20,7 +19,7 @@ use Rattle.promise.specs.RunViews.{recordOf, replaced, others, Runs, Out
 use Rattle.promise.specs.Classes.{Kind, Start, Yes, No, MoveP, MoveW, Ack, Commit, Abort, byKind}
 use Rattle.promise.specs.View.{View}
 use Rattle.promise.specs.Less.{Less, stop}
-use Rattle.promise.specs.Become.{upd, upd-same, upd-other, become}
+use Rattle.promise.specs.Become.{by-site, upd, upd-same, upd-other, become}
 use Rattle.promise.specs.Send.{send}
 
 -- The number of a kind.
@@ -94,19 +93,15 @@ module _ (w w′ : ℕ → Type 0) (r : Run) (shape : Shape r) (net : List ℕ) 
 
   -- a part of the record, changed at j
   changed : {A : Type 0} (f : Record → A) (i : ℕ) → upd (λ i. f (recordOf (r .sites) i)) j (f x) i ≡ f (recordOf (wholly .sites) i)
-  changed f i = go (ℕ-discrete i j)
-    where
-      go : Dec (i ≡ j) → upd (λ i. f (recordOf (r .sites) i)) j (f x) i ≡ f (recordOf (wholly .sites) i)
-      go (yes e) = rw e (upd-same _ j (f x) ∙ ap f (sym new-j))
-      go (no ne) = upd-other _ j (f x) i ne ∙ ap f (sym (others (r .sites) j x j1 i ne))
+  changed f =
+      by-site (λ i. upd (λ i. f (recordOf (r .sites) i)) j (f x) i ≡ f (recordOf (wholly .sites) i)) j (upd-same _ j (f x) ∙ ap f (sym new-j))
+      (λ i ne. upd-other _ j (f x) i ne ∙ ap f (sym (others (r .sites) j x j1 i ne)))
 
   lives : (κ′ : Kind) (k i : ℕ) → viewOf w′ wholly .live κ′ k i → viewOf w r .live κ′ k i ⊎ ((κ ≡ κ′) × (j ≡ k) × T i)
   lives κ′ k i (inl y) = ⊎-elim (λ z. inl (inl z)) (λ z. inr z) (sent-live r net len fewer j K m κ T kind κ′ k i y)
-  lives κ′ k i (inr y) = go (ℕ-discrete i j)
-    where
-      go : Dec (i ≡ j) → viewOf w r .live κ′ k i ⊎ ((κ ≡ κ′) × (j ≡ k) × T i)
-      go (yes e) = inl (subst (λ (i : ℕ). viewOf w r .live κ′ k i) (sym e) (heard κ′ k (subst (λ (x : Record). Recorded κ′ x k) (ap (recordOf (wholly .sites)) e ∙ new-j) y)))
-      go (no ne) = inl (inr (subst (λ (x : Record). Recorded κ′ x k) (others (r .sites) j x j1 i ne) y))
+  lives κ′ k i (inr y) =
+      inl (by-site (λ i. Recorded κ′ (recordOf (wholly .sites) i) k → viewOf w r .live κ′ k i) j (λ y. heard κ′ k (subst (λ (x : Record). Recorded κ′ x k) new-j y))
+      (λ i ne y. inr (subst (λ (x : Record). Recorded κ′ x k) (others (r .sites) j x j1 i ne) y)) i y)
 
   pub wholly-less : Less (viewOf w′ wholly) (send (become (viewOf w r) j (x .state) (x .leader) (viewOf w′ r .voted)) κ j T)
   wholly-less =

@@ -43,6 +43,7 @@ use Rattle.promise.specs.RunViews.{recordOf, record-at, Runs, Out, out-p
 use Rattle.promise.specs.RunEvents.{Accepted, allow}
 use Rattle.promise.specs.Classes.{Kind, Start, Yes, No, MoveP, MoveW, Ack, Commit, Abort, IsA, IsC, WP, First, is-a, is-c}
 use Rattle.promise.specs.View.{Lowest}
+use Rattle.promise.specs.Become.{by-site}
 use Rattle.promise.specs.Owed.{Owed, Due}
 use Rattle.promise.specs.Seen.{number, Recorded, viewOf}
 use Rattle.promise.specs.Stepping.{Sure, Stepped, steps}
@@ -267,16 +268,12 @@ module _ (w : ℕ → Type 0) (r : Run) (h : Held w r) (o : Owed (viewOf w r)) (
           go (no d) =
               absurd (not-waiting (λ f. d (f .0)) (rw e tt) (unfold polls in simp (e, ne-eqb (z .number) 1 (λ f. d (sym mine ∙ f)))) (unfold collects in simp (eq-eqb (z .leader) (z .number) leads, e, ne-eqb (z .number) 1 (λ f. d (sym mine ∙ f)))))
       decided P e j y = absurd (not-waiting (λ f. rw e at (f .1)) (rw e tt) (unfold polls in simp e) (unfold collects in simp (eq-eqb (z .leader) (z .number) leads, e)))
-      decided A e j y = go (ℕ-discrete j s)
-        where
-          go : Dec (j ≡ s) → IsA (viewOf w r .st j) ⊎ IsC (viewOf w r .st j)
-          go (yes d) = inl (subst (λ (i : ℕ). IsA (viewOf w r .st i)) (sym d) (rw (st-is ∙ e) tt))
-          go (no d) = inl (⊎-elim (λ m. absurd (held Abort s j (y .least) m)) (λ u. u) (due j y d .aborts (leads ∙ mine, λ f. rw e at (f .1)) (rw e tt)))
-      decided C e j y = go (ℕ-discrete j s)
-        where
-          go : Dec (j ≡ s) → IsA (viewOf w r .st j) ⊎ IsC (viewOf w r .st j)
-          go (yes d) = inr (subst (λ (i : ℕ). IsC (viewOf w r .st i)) (sym d) (rw (st-is ∙ e) tt))
-          go (no d) = inr (⊎-elim (λ m. absurd (held Commit s j (y .least) m)) (λ u. u) (due j y d .commits (leads ∙ mine, λ f. rw e at (f .1)) (rw e tt)))
+      decided A e j y =
+          inl (by-site (λ i. Runs r i → IsA (viewOf w r .st i)) s (λ _. rw (st-is ∙ e) tt)
+          (λ i d y. ⊎-elim (λ m. absurd (held Abort s i (y .least) m)) (λ u. u) (due i y d .aborts (leads ∙ mine, λ f. rw e at (f .1)) (rw e tt))) j y)
+      decided C e j y =
+          inr (by-site (λ i. Runs r i → IsC (viewOf w r .st i)) s (λ _. rw (st-is ∙ e) tt)
+          (λ i d y. ⊎-elim (λ m. absurd (held Commit s i (y .least) m)) (λ u. u) (due i y d .commits (leads ∙ mine, λ f. rw e at (f .1)) (rw e tt))) j y)
 
   -- ---- the lowest running site is there
 
