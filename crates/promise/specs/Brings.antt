@@ -17,7 +17,7 @@ use Rattle.site.specs.declared.Site.{Site as Record}
 use Rattle.promise.specs.SetsMembers.{In, with-in, in-with, in-with-new}
 use Rattle.promise.specs.Classes.{Kind, Start, Yes, No, MoveP, MoveW, Ack, Commit, Abort, byKind}
 use Rattle.promise.specs.Does.{Uses, nothing, notes, message}
-use Rattle.promise.specs.Seen.{number, same-kind, Recorded}
+use Rattle.promise.specs.Seen.{number, same-kind, Recorded, by-recorded}
 
 -- One value for each kind of step.
 abbrev pub byStep {ℓ} : {A : Type ℓ} → (Vote → A) → (ℕ → Vote → A) → (ℕ → ℕ → A) → A → A → A → Step → A
@@ -135,24 +135,12 @@ more-kept κ c m from i h = go (eqb (number κ) (number c))
     go false = h
 
 pub hearing-cases : (κ : Kind) (x : Record) (from : ℕ) (c : Kind) (i : ℕ) → Recorded c (hearing κ x from) i → Recorded c x i ⊎ ((κ ≡ c) × (i ≡ from))
-hearing-cases κ x from Yes i h = more-cases κ Yes (x .yes) from i h
-hearing-cases κ x from No i h = more-cases κ No (x .no) from i h
-hearing-cases κ x from Ack i h = more-cases κ Ack (x .acked) from i h
-hearing-cases κ x from Start i h = absurd h
-hearing-cases κ x from MoveP i h = absurd h
-hearing-cases κ x from MoveW i h = absurd h
-hearing-cases κ x from Commit i h = absurd h
-hearing-cases κ x from Abort i h = absurd h
+hearing-cases κ x from c i =
+    by-recorded (λ c. Recorded c x i ⊎ ((κ ≡ c) × (i ≡ from))) (hearing κ x from) i (more-cases κ Yes (x .yes) from i) (more-cases κ No (x .no) from i) (more-cases κ Ack (x .acked) from i) c
 
 pub hearing-kept : (κ : Kind) (x : Record) (from : ℕ) (c : Kind) (i : ℕ) → Recorded c x i → Recorded c (hearing κ x from) i
-hearing-kept κ x from Yes i h = more-kept κ Yes (x .yes) from i h
-hearing-kept κ x from No i h = more-kept κ No (x .no) from i h
-hearing-kept κ x from Ack i h = more-kept κ Ack (x .acked) from i h
-hearing-kept κ x from Start i h = h
-hearing-kept κ x from MoveP i h = h
-hearing-kept κ x from MoveW i h = h
-hearing-kept κ x from Commit i h = h
-hearing-kept κ x from Abort i h = h
+hearing-kept κ x from c i =
+    by-recorded (λ c. Recorded c (hearing κ x from) i) x i (more-kept κ Yes (x .yes) from i) (more-kept κ No (x .no) from i) (more-kept κ Ack (x .acked) from i) c
 
 pub hearing-new : (κ : Kind) (x : Record) (from : ℕ) → Site from → Answer κ → Recorded κ (hearing κ x from) from
 hearing-new Yes x from at o = in-with-new (x .yes) from from at refl

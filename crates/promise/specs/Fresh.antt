@@ -17,12 +17,12 @@ use Rattle.run.specs.Event.{freshOf, eventOf}
 use Rattle.run.specs.After.{Tale, onward, told, opening, after}
 use Rattle.run.specs.RunLaws.{frame}
 use Rattle.run.specs.GoodRuns.{fresh-good}
-use Rattle.promise.specs.SetsMembers.{In, in-none}
+use Rattle.promise.specs.SetsMembers.{in-none}
 use Rattle.promise.specs.RunViews.{recordOf, Out}
-use Rattle.promise.specs.Classes.{Kind, Start, Yes, No, MoveP, MoveW, Ack, Commit, Abort}
+use Rattle.promise.specs.Classes.{Kind, Yes, Ack}
 use Rattle.promise.specs.View.{View, Evidence, seen, Inv}
 use Rattle.promise.specs.View as view
-use Rattle.promise.specs.Seen.{number, Recorded, viewOf}
+use Rattle.promise.specs.Seen.{number, Recorded, by-recorded, viewOf}
 use Rattle.promise.specs.Words.{Voted, begins, answers, leaves, later}
 use Rattle.promise.specs.RunAfter.{told-keeps}
 use Rattle.promise.specs.Keeping.{Held, Now, With, some, keeps, revote}
@@ -81,14 +81,8 @@ abbrev pub nothing : ℕ → Type 0
 nothing i = ⊥
 
 nothing-recorded : (n : ℕ) (κ : Kind) (k i : ℕ) → Recorded κ (recordOf (freshRun n .sites) i) k → ⊥
-nothing-recorded n Yes k i = each-fresh n (λ x _. In (x .yes) k → ⊥) (λ _ _. in-none k) (λ _. in-none k) i
-nothing-recorded n No k i = each-fresh n (λ x _. In (x .no) k → ⊥) (λ _ _. in-none k) (λ _. in-none k) i
-nothing-recorded n Ack k i = each-fresh n (λ x _. In (x .acked) k → ⊥) (λ _ _. in-none k) (λ _. in-none k) i
-nothing-recorded n Start k i = λ x. x
-nothing-recorded n MoveP k i = λ x. x
-nothing-recorded n MoveW k i = λ x. x
-nothing-recorded n Commit k i = λ x. x
-nothing-recorded n Abort k i = λ x. x
+nothing-recorded n κ k =
+    each-fresh n (λ x _. Recorded κ x k → ⊥) (λ i _. by-recorded (λ _. ⊥) (freshSite n i) k (in-none k) (in-none k) (in-none k) κ) (λ _. by-recorded (λ _. ⊥) noSite k (in-none k) (in-none k) (in-none k) κ)
 
 pub no-live : (n : ℕ) (κ : Kind) (k i : ℕ) → viewOf nothing (freshRun n) .live κ k i → ⊥
 no-live n κ k i = ⊎-elim (no-message n (number κ) k i) (nothing-recorded n κ k i)

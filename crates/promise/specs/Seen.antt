@@ -54,6 +54,17 @@ same-kind κ κ′ e = sym (kind-of κ) ∙ ap kindOf e ∙ kind-of κ′
 abbrev pub Recorded : Kind → Record → ℕ → Type 0
 Recorded κ x k = byKind ⊥ (In (x .yes) k) (In (x .no) k) ⊥ ⊥ (In (x .acked) k) ⊥ ⊥ κ
 
+-- Nothing else is recorded.
+pub by-recorded : (M : Kind → Type 0) (x : Record) (k : ℕ) → (In (x .yes) k → M Yes) → (In (x .no) k → M No) → (In (x .acked) k → M Ack) → (κ : Kind) → Recorded κ x k → M κ
+by-recorded M x k y n a Yes h = y h
+by-recorded M x k y n a No h = n h
+by-recorded M x k y n a Ack h = a h
+by-recorded M x k y n a Start h = absurd h
+by-recorded M x k y n a MoveP h = absurd h
+by-recorded M x k y n a MoveW h = absurd h
+by-recorded M x k y n a Commit h = absurd h
+by-recorded M x k y n a Abort h = absurd h
+
 -- The view of a run, with w for the votes given. Numbers that are no site's count as having voted.
 abbrev pub viewOf : (ℕ → Type 0) → Run → View
 viewOf w r =

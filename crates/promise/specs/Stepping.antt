@@ -38,7 +38,7 @@ use Rattle.promise.specs.Classes as classes
 use Rattle.promise.specs.View.{View, seen as seen-at, told as told-by, Lead, Lowest, Inv}
 use Rattle.promise.specs.Does as does
 use Rattle.promise.specs.Does.{Everyone, Only, Idle, Uses, nothing, notes, message, Does}
-use Rattle.promise.specs.Seen.{number, same-kind, Recorded, viewOf}
+use Rattle.promise.specs.Seen.{number, same-kind, Recorded, by-recorded, viewOf}
 use Rattle.promise.specs.Brings.{Delivers, Notices, Voices, Starts, weigh-least, netWorth, newsWorth, feeOf, kindIn, senderIn, IsMessage, Answer, hearing, hearing-cases, hearing-kept, hearing-new}
 
 -- A test holds or does not.
@@ -540,27 +540,13 @@ module _ (w : ℕ → Type 0) (r : Run) (g : Sound r) (u : Inv (viewOf w r)) (j 
 
     -- acknowledgements are cleared: there were none
     cleared : (y : Record) → y .yes ≡ s .yes → y .no ≡ s .no → y .acked ≡ 0 → y .known ≡ s .known → Holds y
-    cleared y p q z k = record { heard = old; kept = new; knows = λ i h. rw k h }
-      where
-        old : (c : Kind) (i : ℕ) → Recorded c y i → a .live c i j
-        old Yes i h = same-heard Yes i (rw p at h)
-        old No i h = same-heard No i (rw q at h)
-        old Ack i h = absurd (in-none i (rw z at h))
-        old Start i h = absurd h
-        old MoveP i h = absurd h
-        old MoveW i h = absurd h
-        old Commit i h = absurd h
-        old Abort i h = absurd h
-
-        new : (c : Kind) (i : ℕ) → Recorded c s i → Recorded c y i
-        new Yes i h = rw p h
-        new No i h = rw q h
-        new Ack i h = let e : a .ld j ≡ j = u .leader j i (same-heard Ack i h) x .0 in absurd (omega (arith, follows-lower))
-        new Start i h = h
-        new MoveP i h = h
-        new MoveW i h = h
-        new Commit i h = h
-        new Abort i h = h
+    cleared y p q z k =
+        record {
+          heard = λ c i. by-recorded (λ c. a .live c i j) y i (λ h. same-heard Yes i (rw p at h)) (λ h. same-heard No i (rw q at h)) (λ h. absurd (in-none i (rw z at h))) c;
+          kept = λ c i. by-recorded (λ c. Recorded c y i) s i (λ h. rw p h) (λ h. rw q h)
+              (λ h. let e : a .ld j ≡ j = u .leader j i (same-heard Ack i h) x .0 in absurd (omega (arith, follows-lower))) c;
+          knows = λ i h. rw k h;
+        }
 
     -- the order that is given, and the state in which
     takes : (κ : Kind) (q : State) (y : Record) → y .state ≡ q → y .leader ≡ s .number → Holds y → (Gives κ → ⊥)
