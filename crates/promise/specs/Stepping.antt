@@ -33,7 +33,7 @@ use Rattle.sets.specs.Truths.{and-l, and-r, or-e, clash, fails}
 use Rattle.promise.specs.SetsMembers.{In, and-none, or-none, in?, in-none, minus-in, minus-out, in-minus, in-with, in-with-new, weight-in, in-weight, others-in, others-out, in-others, in-below}
 use Rattle.promise.specs.RunViews.{recordOf, record-at, Runs, Out}
 use Rattle.run.specs.Sound.{Sound}
-use Rattle.promise.specs.Classes.{Kind, Start, Yes, No, MoveP, MoveW, Ack, Commit, Abort, IsQ, WP, IsYes, Gives, yes-gives}
+use Rattle.promise.specs.Classes.{Kind, Start, Yes, No, MoveP, MoveW, Ack, Commit, Abort, IsQ, PC, QWA, WP, IsYes, Gives, yes-gives}
 use Rattle.promise.specs.Classes as classes
 use Rattle.promise.specs.View.{View, seen as seen-at, told as told-by, Lead, Lowest, Inv}
 use Rattle.promise.specs.Does as does
@@ -390,11 +390,17 @@ module _ (w : ℕ → Type 0) (r : Run) (g : Sound r) (u : Inv (viewOf w r)) (j 
       to-sender : Only from (λ i. In (weightOf from) i)
       to-sender = record { only = weight-in from; there = in-weight from at }
 
-      to-run : (i : ℕ) → In (weightOf from) i → i ≤ r .n
-      to-run i h = omega (arith, weight-in from i h, x .most)
+      -- a Move is acknowledged; a decision has no answer, also where j has decided already
+      acknowledges : (κ : Kind) (q : State) → Does a j (λ i. In (weightOf from) i) q from Ack (message κ from) → Stepped (step.Deliver (number κ) from) (taken (following (inState s q) from) 6 (weightOf from))
+      acknowledges κ q = follows-order κ q (weightOf from) Taken 6 (inl refl) (λ i h. omega (arith, weight-in from i h, x .most))
 
-      to-none : (i : ℕ) → In 0 i → i ≤ r .n
-      to-none i h = absurd (in-none i h)
+      decides : (κ : Kind) (q : State) (o : Outcome) → Does a j (λ i. In 0 i) q from Ack (message κ from)
+          → Stepped (step.Deliver (number κ) from) (record { site = following (inState s q) from; outcome = o; kind = 0; to = 0 })
+      decides κ q o = follows-order κ q 0 o 0 (inr in-none) (λ i h. absurd (in-none i h))
+
+      decides-again : (κ : Kind) (q : State) → s .state ≡ q → Does a j (λ i. In 0 i) q from Ack (message κ from) → Stepped (step.Deliver (number κ) from) (passed (following s from))
+      decides-again κ q e c =
+          subst (λ (q : State). Stepped (step.Deliver (number κ) from) (record { site = following (inState s q) from; outcome = Passed; kind = 0; to = 0 })) (sym e) (decides κ q Passed c)
 
       up : s .leader ≤ from → a .ld j ≤ from
       up h = rw ld-is h
@@ -416,44 +422,46 @@ module _ (w : ℕ → Type 0) (r : Run) (g : Sound r) (u : Inv (viewOf w r)) (j 
         where
           go : (q : State) → s .state ≡ q → s .leader ≤ from → M (step.Deliver 4 from) (obeyed (orderAt 4 q) s 4 from)
           go Q e h = absurd (u .unvoted j x (rw (st-is ∙ e) tt) (u .prepared (told-by MoveP from j tt (inl m)) .all j))
-          go W e h = follows-order MoveP P (weightOf from) Taken 6 (inl refl) to-run (does.move-p (at .least) (up h) (inl m) (st-is ∙ e) to-sender)
-          go P e h = follows-order MoveP P (weightOf from) Taken 6 (inl refl) to-run (does.stay-p (at .least) (up h) (inl m) (st-is ∙ e) tt to-sender)
+          go W e h = acknowledges MoveP P (does.move-p (at .least) (up h) (inl m) (st-is ∙ e) to-sender)
+          go P e h = acknowledges MoveP P (does.stay-p (at .least) (up h) (inl m) (st-is ∙ e) tt to-sender)
           go A e h = absurd (not-below h (u .aborted (seen-at j (rw (st-is ∙ e) tt)) .decided .deaf from j (inl m) x))
-          go C e h = follows-order MoveP C (weightOf from) Taken 6 (inl refl) to-run (does.stay-p (at .least) (up h) (inl m) (st-is ∙ e) tt to-sender)
+          go C e h = acknowledges MoveP C (does.stay-p (at .least) (up h) (inl m) (st-is ∙ e) tt to-sender)
 
       move-w : Out (r .net) 5 from j → M (step.Deliver 5 from) (obeyOf s 5 from)
       move-w m = obeys MoveW below (λ h. go (s .state) refl h)
         where
           go : (q : State) → s .state ≡ q → s .leader ≤ from → M (step.Deliver 5 from) (obeyed (orderAt 5 q) s 5 from)
-          go Q e h = follows-order MoveW W (weightOf from) Taken 6 (inl refl) to-run (does.move-w (at .least) (up h) (inl m) (rw (st-is ∙ e) tt) to-sender)
-          go W e h = follows-order MoveW W (weightOf from) Taken 6 (inl refl) to-run (does.move-w (at .least) (up h) (inl m) (rw (st-is ∙ e) tt) to-sender)
-          go P e h = follows-order MoveW W (weightOf from) Taken 6 (inl refl) to-run (does.move-w (at .least) (up h) (inl m) (rw (st-is ∙ e) tt) to-sender)
-          go A e h = follows-order MoveW A (weightOf from) Taken 6 (inl refl) to-run (does.stay-w (at .least) (up h) (inl m) (st-is ∙ e) to-sender)
+          go Q e h = acknowledges MoveW W (does.move-w (at .least) (up h) (inl m) (rw (st-is ∙ e) tt) to-sender)
+          go W e h = acknowledges MoveW W (does.move-w (at .least) (up h) (inl m) (rw (st-is ∙ e) tt) to-sender)
+          go P e h = acknowledges MoveW W (does.move-w (at .least) (up h) (inl m) (rw (st-is ∙ e) tt) to-sender)
+          go A e h = acknowledges MoveW A (does.stay-w (at .least) (up h) (inl m) (st-is ∙ e) to-sender)
           go C e h = absurd (not-below h (u .committed (seen-at j (rw (st-is ∙ e) tt)) .deaf from j (inl m) x))
 
       commit : Out (r .net) 7 from j → M (step.Deliver 7 from) (obeyOf s 7 from)
       commit m = obeys Commit below (λ h. go (s .state) refl h)
         where
+          ready : PC (a .st j)
+          ready = u .committed (told-by Commit from j refl (inl m)) .each j x
+
           go : (q : State) → s .state ≡ q → s .leader ≤ from → M (step.Deliver 7 from) (obeyed (orderAt 7 q) s 7 from)
-          go Q e h = absurd (rw (st-is ∙ e) at (u .committed (told-by Commit from j refl (inl m)) .each j x))
-          go W e h = absurd (rw (st-is ∙ e) at (u .committed (told-by Commit from j refl (inl m)) .each j x))
-          go P e h = follows-order Commit C 0 Taken 0 (inr in-none) to-none (does.commit (at .least) (up h) (inl m) in-none)
-          go A e h = absurd (rw (st-is ∙ e) at (u .committed (told-by Commit from j refl (inl m)) .each j x))
-          go C e h =
-              subst (λ (q : State). Stepped (step.Deliver 7 from) (record { site = following (inState s q) from; outcome = Passed; kind = 0; to = 0 })) (sym e)
-              (follows-order Commit C 0 Passed 0 (inr in-none) to-none (does.commit (at .least) (up h) (inl m) in-none))
+          go Q e h = absurd (rw (st-is ∙ e) at ready)
+          go W e h = absurd (rw (st-is ∙ e) at ready)
+          go P e h = decides Commit C Taken (does.commit (at .least) (up h) (inl m) in-none)
+          go A e h = absurd (rw (st-is ∙ e) at ready)
+          go C e h = decides-again Commit C e (does.commit (at .least) (up h) (inl m) in-none)
 
       abort : Out (r .net) 8 from j → M (step.Deliver 8 from) (obeyOf s 8 from)
       abort m = obeys Abort below (λ h. go (s .state) refl h)
         where
+          unready : QWA (a .st j)
+          unready = u .aborted (told-by Abort from j refl (inl m)) .decided .each j x
+
           go : (q : State) → s .state ≡ q → s .leader ≤ from → M (step.Deliver 8 from) (obeyed (orderAt 8 q) s 8 from)
-          go Q e h = follows-order Abort A 0 Taken 0 (inr in-none) to-none (does.abort (at .least) (up h) (inl m) in-none)
-          go W e h = follows-order Abort A 0 Taken 0 (inr in-none) to-none (does.abort (at .least) (up h) (inl m) in-none)
-          go P e h = absurd (rw (st-is ∙ e) at (u .aborted (told-by Abort from j refl (inl m)) .decided .each j x))
-          go A e h =
-              subst (λ (q : State). Stepped (step.Deliver 8 from) (record { site = following (inState s q) from; outcome = Passed; kind = 0; to = 0 })) (sym e)
-              (follows-order Abort A 0 Passed 0 (inr in-none) to-none (does.abort (at .least) (up h) (inl m) in-none))
-          go C e h = absurd (rw (st-is ∙ e) at (u .aborted (told-by Abort from j refl (inl m)) .decided .each j x))
+          go Q e h = decides Abort A Taken (does.abort (at .least) (up h) (inl m) in-none)
+          go W e h = decides Abort A Taken (does.abort (at .least) (up h) (inl m) in-none)
+          go P e h = absurd (rw (st-is ∙ e) at unready)
+          go A e h = decides-again Abort A e (does.abort (at .least) (up h) (inl m) in-none)
+          go C e h = absurd (rw (st-is ∙ e) at unready)
 
   named : (i : ℕ) → inRun s i ≡ true → Site i
   named i h = record { least = in-run s i h .0; most = omega (arith, in-run s i h .1, sound .most) }
