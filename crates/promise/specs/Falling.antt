@@ -37,7 +37,7 @@ use Rattle.promise.specs.Keeping.{Held, Now, With, delivered-len, doneAt
 use Rattle.promise.specs.Count.{by-size, members-above, members-only, members-none, members-some}
 use Rattle.promise.specs.Measure.{own, falls}
 use Rattle.promise.specs.Potential.{messages, messages-sent, messages-taken, messages-halted, messages-stopped, partOf, parts, part-runs, part-stopped, parts-at, pairs, pairs-le, pairs-learn, potential, potential-is, fresh-potential}
-use Rattle.promise.specs.Fresh.{nothing, fresh-held, fresh-is}
+use Rattle.promise.specs.Fresh.{nothing, start-held, fresh-is}
 
 news-one : (t : Step) → newsWorth t ≤ 1
 news-one (step.Begin v) = omega arith
@@ -259,7 +259,7 @@ unfolding after opening
 accepted-bound n p q es =
     omega (
       arith,
-      told-falls nothing (opening n) es (subst (Held nothing) (sym (fresh-is n p q)) (fresh-held n)),
+      told-falls nothing (opening n) es (start-held n p q),
       ap potential (fresh-is n p q),
       fresh-potential n p q,
     )

@@ -87,7 +87,7 @@ nothing-recorded n κ k =
 pub no-live : (n : ℕ) (κ : Kind) (k i : ℕ) → viewOf nothing (freshRun n) .live κ k i → ⊥
 no-live n κ k i = ⊎-elim (no-message n (number κ) k i) (nothing-recorded n κ k i)
 
-pub fresh-held : (n : ℕ) → Held nothing (freshRun n)
+fresh-held : (n : ℕ) → Held nothing (freshRun n)
 fresh-held n =
     record {
       shape = record { sites = refl; net = refl };
@@ -126,10 +126,13 @@ module _ (n : ℕ) (least : 2 ≤ n) (most : n ≤ 8) where
   unfolding freshOf
   fresh-is = simp (le-leb 2 n least, le-leb n 8 most)
 
+  pub start-held : Held nothing (freshOf n .run)
+  start-held = subst (Held nothing) (sym fresh-is) (fresh-held n)
+
   pub sites-after : (es : List Event) → after n es .run .n ≡ n
   unfolding after opening
   sites-after es = told-keeps (λ (r : Run). r .n ≡ n) (λ r e g h. frame r e (g .bytes .shape) .n ∙ h) (opening n) es (rw fresh-is (fresh-good n least most)) (ap (λ (r : Run). r .n) fresh-is)
 
   pub held-after : (es : List Event) → Held (With nothing (Voted (freshOf n .run) es)) (after n es .run)
   unfolding after opening
-  held-after es = told-held nothing (opening n) es (subst (Held nothing) (sym fresh-is) (fresh-held n))
+  held-after es = told-held nothing (opening n) es start-held

@@ -30,7 +30,7 @@ use Rattle.promise.specs.Become.{by-site}
 use Rattle.promise.specs.Seen.{number, Recorded, viewOf, still-runs, stopped-view}
 use Rattle.promise.specs.Brings.{Delivers}
 use Rattle.promise.specs.Keeping.{Held, by-delivery, delivered-len, doneAt, kindAt, wholeAt, leaving, partAt, Known, known, whole-less, part-less, Now, With, keeps}
-use Rattle.promise.specs.Fresh.{nothing, each-fresh, no-live, fresh-held, fresh-is}
+use Rattle.promise.specs.Fresh.{nothing, each-fresh, no-live, start-held, fresh-is}
 
 -- a message stays where it is, or is the one delivered
 delivered-old : (r : Run) (s : ℕ) (t : Step) → Shape r → (C k i : ℕ) → Out (r .net) C k i → Out (delivered r s t .net) C k i ⊎ ((i ≡ s) × Delivers t C k)
@@ -194,4 +194,4 @@ fresh-owed n =
 pub owed-after : (n : ℕ) → 2 ≤ n → n ≤ 8 → (es : List Event) → Owed (viewOf nothing (after n es .run))
 unfolding after opening
 owed-after n p q es =
-    told-owed nothing (opening n) es (subst (Held nothing) (sym (fresh-is n p q)) (fresh-held n)) (subst (λ (r : Run). Owed (viewOf nothing r)) (sym (fresh-is n p q)) (fresh-owed n))
+    told-owed nothing (opening n) es (start-held n p q) (subst (λ (r : Run). Owed (viewOf nothing r)) (sym (fresh-is n p q)) (fresh-owed n))
