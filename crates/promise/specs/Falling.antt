@@ -88,17 +88,13 @@ module _ (r : Run) (s : ℕ) (x : Runs r s) (n8 : r .n ≤ 8) (net : List ℕ) w
 
 -- Site s takes a step.
 module _ (w : ℕ → Type 0) (r : Run) (h : Held w r) (s : ℕ) (t : Step) (al : Allowed r s t) where
-  open Known (known w r h s t al) using (good, seen as y, kinds, whole-run, part-run, here, new, still)
+  open Known (known w r h s t al) using (good, seen as y, kinds, whole-run, part-run, place, new, still)
 
   abbrev z : Record
   z = siteAt r s
 
   abbrev d : Done
   d = doneAt r s t
-
-  -- the kind of what is written, and the run after the whole step
-  abbrev kind : ℕ
-  kind = kindAt r s t
 
   abbrev q : Run
   q = wholeAt r s t
@@ -109,17 +105,17 @@ module _ (w : ℕ → Type 0) (r : Run) (h : Held w r) (s : ℕ) (t : Step) (al 
 
   -- messages to a part m of the sites that the step writes to
   module _ (m : ℕ) (sub : (i : ℕ) → In m i → In (d .to) i) where
-    weight : weigh kind * members m 8 ≡ weigh (number (y .κ)) * members m 8
+    weight : weigh (kindAt r s t) * members m 8 ≡ weigh (number (y .κ)) * members m 8
     weight = go (members-some m 8)
       where
-        go : (members m 8 ≡ 0) ⊎ ((i : ℕ) × In m i) → weigh kind * members m 8 ≡ weigh (number (y .κ)) * members m 8
-        go (inl e) = rw e (zero-times (weigh kind) (weigh (number (y .κ))))
+        go : (members m 8 ≡ 0) ⊎ ((i : ℕ) × In m i) → weigh (kindAt r s t) * members m 8 ≡ weigh (number (y .κ)) * members m 8
+        go (inl e) = rw e (zero-times (weigh (kindAt r s t)) (weigh (number (y .κ))))
           where
             zero-times : (a b : ℕ) → a * 0 ≡ b * 0
             zero-times a b = omega arith
         go (inr x) = ap (λ (k : ℕ). weigh k * members m 8) (kinds (x .0) (sub (x .0) (x .1)))
 
-    lowers : own (r .n) s (d .site .state) (d .site .leader) + weigh kind * members m 8 + 1 ≤ before + (netWorth t + newsWorth t)
+    lowers : own (r .n) s (d .site .state) (d .site .leader) + weigh (kindAt r s t) * members m 8 + 1 ≤ before + (netWorth t + newsWorth t)
     lowers =
         omega (
           arith,
@@ -144,7 +140,7 @@ module _ (w : ℕ → Type 0) (r : Run) (h : Held w r) (s : ℕ) (t : Step) (al 
   more : (i k : ℕ) → In (recordOf (r .sites) i .known) k → In (recordOf (q .sites) i .known) k
   more i k =
       by-site (λ i. In (recordOf (r .sites) i .known) k → In (recordOf (q .sites) i .known) k) s
-      (λ x. subst (λ (a : Record). In (a .known) k) (sym new) (y .holds .knows k (subst (λ (a : Record). In (a .known) k) here x)))
+      (λ x. subst (λ (a : Record). In (a .known) k) (sym new) (y .holds .knows k (subst (λ (a : Record). In (a .known) k) (place .here) x)))
       (λ i ne x. subst (λ (a : Record). In (a .known) k) (sym (still i ne)) x) i
 
   none-rises : pairs q ≤ pairs r
@@ -159,7 +155,7 @@ module _ (w : ℕ → Type 0) (r : Run) (h : Held w r) (s : ℕ) (t : Step) (al 
   news step.Conclude e = omega (arith, none-rises)
   news (step.Notice o) e =
       pairs-learn r q refl (λ i x. x) more s o (al .runs .least) (al .runs .most) (noticed .0) (noticed .1) other (al .runs .up) (and-l (has (r .stopped) o) (not (has (z .known) o)) there)
-      (ap (λ (a : Record). has (a .known) o) here ∙ not-true (has (z .known) o) (and-r (has (r .stopped) o) (not (has (z .known) o)) there))
+      (ap (λ (a : Record). has (a .known) o) (place .here) ∙ not-true (has (z .known) o) (and-r (has (r .stopped) o) (not (has (z .known) o)) there))
       (ap (λ (a : Record). has (a .known) o) new ∙ y .spends .learns o (subst (λ (u : Step). Notices u o) e refl))
     where
       names : (inRun z o && not (eqb o (z .number))) ≡ true
@@ -171,10 +167,10 @@ module _ (w : ℕ → Type 0) (r : Run) (h : Held w r) (s : ℕ) (t : Step) (al 
       noticed : (1 ≤ o) × (o ≤ r .n)
       noticed =
           let i = in-run z o (and-l (inRun z o) (not (eqb o (z .number))) names) in
-          (i .0, rw (good .places s (al .runs .least) (al .runs .most) .sites) at (i .1))
+          (i .0, rw (place .size) at (i .1))
 
       other : o ≢ s
-      other f = eqb-false o (z .number) (not-true (eqb o (z .number)) (and-r (inRun z o) (not (eqb o (z .number))) names)) (f ∙ sym (good .places s (al .runs .least) (al .runs .most) .number))
+      other f = eqb-false o (z .number) (not-true (eqb o (z .number)) (and-r (inRun z o) (not (eqb o (z .number))) names)) (f ∙ sym (place .mine))
 
   pub whole-falls : potential (eventOf r (Act s t) .run) + 1 ≤ potential r
   whole-falls =
@@ -183,7 +179,7 @@ module _ (w : ℕ → Type 0) (r : Run) (h : Held w r) (s : ℕ) (t : Step) (al 
         arith,
         potential-is q,
         potential-is r,
-        messages-sent (delivered r s t .net) (delivered-len r s t (h .shape)) kind s (minus (d .to) (r .stopped)),
+        messages-sent (delivered r s t .net) (delivered-len r s t (h .shape)) (kindAt r s t) s (minus (d .to) (r .stopped)),
         net-delivered r (h .shape .net) s t (al .there),
         parts-whole,
         news t refl,
@@ -199,7 +195,7 @@ module _ (w : ℕ → Type 0) (r : Run) (h : Held w r) (s : ℕ) (t : Step) (al 
         arith,
         potential-is (partAt r s t x),
         potential-is r,
-        messages-sent (stoppedNet (r .net) s) (length-map (r .net) _ ∙ h .shape .net) kind s (leaving r s t x),
+        messages-sent (stoppedNet (r .net) s) (length-map (r .net) _ ∙ h .shape .net) (kindAt r s t) s (leaving r s t x),
         net-halted r (h .shape .net) s t (al .there),
         parts-gone r s (al .runs) (good .most) (partAt r s t x .net),
         pairs-gone r s (al .runs) (good .most) (partAt r s t x .net),

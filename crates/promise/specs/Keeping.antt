@@ -27,7 +27,7 @@ use Rattle.run.specs.Sound.{Sound, soundRun}
 use Rattle.run.specs.Event.{refusedRun, isThere, delivered, acted, cutShort, eventOf}
 use Rattle.promise.specs.SetsMembers.{In, in-none, minus-in, both-l, both-r}
 use Rattle.run.specs.Views.{Shape, delivered-net}
-use Rattle.promise.specs.RunViews.{recordOf, record-at, replaced, others, Runs, Out, takenNet, taken-less}
+use Rattle.promise.specs.RunViews.{recordOf, Placed, placed, replaced, others, Runs, Out, takenNet, taken-less}
 use Rattle.run.specs.SoundLaws.{sound-parts}
 use Rattle.promise.specs.RunEvents.{Accepted, Allowed, Denied, Halted, decide, decide-stop}
 use Rattle.promise.specs.Classes.{IsYes, Gives, IsQ, order-gives, yes-gives}
@@ -149,8 +149,8 @@ pub record Known (w : ℕ → Type 0) (r : Run) (h : Held w r) (s : ℕ) (t : St
   pub outcome : eventOf r (Act s t) .outcome ≡ doneAt r s t .outcome
   pub whole-run : eventOf r (Act s t) .run ≡ wholeAt r s t
   pub part-run : (x : ℕ) → eventOf r (Cut s t x) .run ≡ partAt r s t x
-  -- the record of s before and after, and the others
-  pub here : recordOf (r .sites) s ≡ siteAt r s
+  -- the record of s before and after the step, and the others
+  pub place : Placed r s
   pub new : recordOf (wholeAt r s t .sites) s ≡ doneAt r s t .site
   pub still : (i : ℕ) → i ≢ s → recordOf (wholeAt r s t .sites) i ≡ recordOf (r .sites) i
 
@@ -169,7 +169,7 @@ module _ (w : ℕ → Type 0) (r : Run) (h : Held w r) (s : ℕ) (t : Step) (al 
         outcome = ap (λ (a : Ran). a .outcome) (al .whole) ∙ ap (λ a. a .outcome) step-is;
         whole-run = ap (λ (a : Ran). a .run) (al .whole) ∙ ap (λ a. acted r s t a) step-is ∙ ap (λ (y : Run). sentBy (withRecord y s (d .site)) (kindAt r s t) s (d .to)) (delivered-net r s t);
         part-run = λ x. ap (λ (a : Ran). a .run) (al .part x) ∙ ap (λ a. cutShort r s a x) step-is;
-        here = record-at r s (al .runs .least);
+        place = placed good (al .runs);
         new = replaced (r .sites) s (d .site) (al .runs .least) (omega (arith, h .shape .sites, most));
         still = others (r .sites) s (d .site) (al .runs .least);
       }

@@ -57,14 +57,10 @@ kind-in Abort = (omega arith, omega arith)
 -- ---- a step of site s
 
 module _ (w : ℕ → Type 0) (r : Run) (h : Held w r) (s : ℕ) (t : Step) (al : Allowed r s t) where
-  open Known (known w r h s t al) using (most, seen as y, kinds, whole-run, part-run, here, new, still)
+  open Known (known w r h s t al) using (most, seen as y, kinds, whole-run, part-run, place, new, still)
 
   abbrev d : Done
   d = doneAt r s t
-
-  -- the kind of what is written, and the run after the whole step
-  abbrev kind : ℕ
-  kind = kindAt r s t
 
   abbrev q : Run
   q = wholeAt r s t
@@ -80,25 +76,25 @@ module _ (w : ℕ → Type 0) (r : Run) (h : Held w r) (s : ℕ) (t : Step) (al 
   recorded c k x = inr (subst (λ (a : Record). Recorded c a k) (sym new) x)
 
   stay : (c : Kind) (k i : ℕ) → viewOf w r .live c k i → viewOf w q .live c k i ⊎ ((i ≡ s) × (y .uses ≡ message c k))
-  stay c k i (inl x) = ⊎-elim (λ z. inl (inl (sent-old net kind s (minus (d .to) (r .stopped)) len (number c) k i z))) used (delivered-old r s t (h .shape) (number c) k i x)
+  stay c k i (inl x) = ⊎-elim (λ z. inl (inl (sent-old net (kindAt r s t) s (minus (d .to) (r .stopped)) len (number c) k i z))) used (delivered-old r s t (h .shape) (number c) k i x)
     where
       used : (i ≡ s) × Delivers t (number c) k → viewOf w q .live c k i ⊎ ((i ≡ s) × (y .uses ≡ message c k))
       used z = ⊎-elim (λ u. inr (z .0, u)) (λ u. inl (subst (λ (i : ℕ). viewOf w q .live c k i) (sym (z .0)) (recorded c k u))) (y .spends .used c k (z .1))
   stay c k i (inr x) =
-      inl (by-site (λ i. Recorded c (recordOf (r .sites) i) k → viewOf w q .live c k i) s (λ x. recorded c k (y .holds .kept c k (subst (λ (a : Record). Recorded c a k) here x)))
+      inl (by-site (λ i. Recorded c (recordOf (r .sites) i) k → viewOf w q .live c k i) s (λ x. recorded c k (y .holds .kept c k (subst (λ (a : Record). Recorded c a k) (place .here) x)))
       (λ i ne x. inr (subst (λ (a : Record). Recorded c a k) (sym (still i ne)) x)) i x)
 
   come : (i : ℕ) → Runs q i → In (d .to) i → viewOf w q .live (y .κ) s i
   come i x z =
-      let e : kind ≡ number (y .κ) = kinds i z in
+      let e : kindAt r s t ≡ number (y .κ) = kinds i z in
       let n = kind-in (y .κ) in
       inl (subst (λ (C : ℕ). Out (q .net) C s i) e
-      (sent-new net kind s (minus (d .to) (r .stopped)) len
+      (sent-new net (kindAt r s t) s (minus (d .to) (r .stopped)) len
       (record { least = rw e (n .0); most = rw e (n .1); first = al .runs .least; last = most }) i (in-minus (d .to) (r .stopped) i z (x .up))))
 
   gone : (k : ℕ) → k ≢ s → y .uses ≡ message Start k → viewOf w q .live Start k s → ⊥
   gone k ne u (inl x) =
-      ⊎-elim (delivered-gone r s t (h .shape) 1 k (y .spends .brought Start k u)) (λ z. ne (sym (z .1))) (sent-cases net kind s (minus (d .to) (r .stopped)) len 1 k s x)
+      ⊎-elim (delivered-gone r s t (h .shape) 1 k (y .spends .brought Start k u)) (λ z. ne (sym (z .1))) (sent-cases net (kindAt r s t) s (minus (d .to) (r .stopped)) len 1 k s x)
   gone k ne u (inr x) = x
 
   after-whole : After (viewOf w r) (viewOf w q) s (λ i. In (d .to) i) (d .site .state) (d .site .leader) (y .κ) (y .uses)
@@ -128,7 +124,7 @@ module _ (w : ℕ → Type 0) (r : Run) (h : Held w r) (s : ℕ) (t : Step) (al 
         runs = λ i. still-runs r s most i (partAt r s t x .net);
         st = λ i. refl;
         ld = λ i. refl;
-        stay = λ c k i ne. ⊎-elim (λ z. inl (sent-old (stoppedNet (r .net) s) kind s (leaving r s t x) (length-map (r .net) _ ∙ h .shape .net) (number c) k i (stopped-old (r .net) s (number c) k i z ne))) (λ z. inr z);
+        stay = λ c k i ne. ⊎-elim (λ z. inl (sent-old (stoppedNet (r .net) s) (kindAt r s t) s (leaving r s t x) (length-map (r .net) _ ∙ h .shape .net) (number c) k i (stopped-old (r .net) s (number c) k i z ne))) (λ z. inr z);
         only = λ k i ne z. ⊎-elim (λ u. u) (λ u. absurd (ne (sym (u .1)))) (part-less w r h s t al w x .live Start k i z);
       }) o)
 

@@ -15,6 +15,7 @@ use Rattle.sets.specs.Sets.{has, union, minus, without}
 use Rattle.site.specs.declared.Site.{Site as Record}
 use Rattle.run.specs.declared.Run.{Run}
 use Rattle.run.specs.Views.{Place, isPlace, place-parts, parts-place, none-past, entry}
+use Rattle.run.specs.Sound.{Sound}
 use Rattle.run.specs.Run.{noSite, siteAt, place, receivers}
 use Rattle.sets.specs.Truths.{and-l, and-r}
 use Rattle.promise.specs.SetsMembers.{In, in-none, union-in, in-left, in-right, without-in, without-out, in-without}
@@ -49,6 +50,24 @@ pub record Runs (r : Run) (i : ℕ) : Type 0 where
   pub least : 1 ≤ i
   pub most : i ≤ r .n
   pub up : has (r .stopped) i ≡ false
+
+-- The record of a running site of a sound run has the site's number and the run's; it is where the invariant looks for it.
+pub record Placed (r : Run) (i : ℕ) : Type 0 where
+  pub here : recordOf (r .sites) i ≡ siteAt r i
+  pub st-is : recordOf (r .sites) i .state ≡ siteAt r i .state
+  pub ld-is : recordOf (r .sites) i .leader ≡ siteAt r i .leader
+  pub mine : siteAt r i .number ≡ i
+  pub size : siteAt r i .n ≡ r .n
+
+pub placed : {r : Run} {i : ℕ} → Sound r → Runs r i → Placed r i
+placed {r} {i} g x =
+    record {
+      here = record-at r i (x .least);
+      st-is = ap (λ (a : Record). a .state) (record-at r i (x .least));
+      ld-is = ap (λ (a : Record). a .leader) (record-at r i (x .least));
+      mine = g .places i (x .least) (x .most) .number;
+      size = g .places i (x .least) (x .most) .sites;
+    }
 
 -- A message of kind K from k to i is outstanding.
 abbrev pub Out : List ℕ → ℕ → ℕ → ℕ → Type 0

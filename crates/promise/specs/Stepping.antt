@@ -31,7 +31,7 @@ use Rattle.run.specs.Run.{siteAt, outstanding}
 use Rattle.run.specs.Event.{isThere}
 use Rattle.sets.specs.Truths.{and-l, and-r, or-e, clash, fails}
 use Rattle.promise.specs.SetsMembers.{In, and-none, or-none, in?, in-none, minus-in, minus-out, in-minus, in-with, in-with-new, weight-in, in-weight, others-in, others-out, in-others, in-below}
-use Rattle.promise.specs.RunViews.{recordOf, record-at, Runs, Out}
+use Rattle.promise.specs.RunViews.{Runs, Placed, placed, Out}
 use Rattle.run.specs.Sound.{Sound}
 use Rattle.promise.specs.Classes.{Kind, Start, Yes, No, MoveP, MoveW, Ack, Commit, Abort, IsQ, PC, QWA, WP, IsYes, Gives, yes-gives}
 use Rattle.promise.specs.Classes as classes
@@ -124,20 +124,7 @@ module _ (w : ℕ → Type 0) (r : Run) (g : Sound r) (u : Inv (viewOf w r)) (j 
     pub spends : Spends t d uses
     pub votes : Votes t d κ
 
-  here : recordOf (r .sites) j ≡ s
-  here = record-at r j (x .least)
-
-  st-is : a .st j ≡ s .state
-  st-is = ap (λ (y : Record). y .state) here
-
-  ld-is : a .ld j ≡ s .leader
-  ld-is = ap (λ (y : Record). y .leader) here
-
-  mine : s .number ≡ j
-  mine = g .places j (x .least) (x .most) .number
-
-  size : s .n ≡ r .n
-  size = g .places j (x .least) (x .most) .sites
+  open Placed (placed g x) using (here, st-is, ld-is, mine, size)
 
   sound : SoundSite s
   sound = sound-parts s (g .places j (x .least) (x .most) .sound)

@@ -39,7 +39,7 @@ use Rattle.run.specs.SoundLaws.{sound-parts}
 use Rattle.run.specs.GoodRuns as run
 use Rattle.sets.specs.Truths.{and-i, clash, fails}
 use Rattle.promise.specs.SetsMembers.{In, or-none, in?, in-none, minus-in, minus-out, others-in, others-out, below-in}
-use Rattle.promise.specs.RunViews.{recordOf, record-at, Runs, Out, out-placed}
+use Rattle.promise.specs.RunViews.{recordOf, record-at, Runs, Placed, placed, Out, out-placed}
 use Rattle.promise.specs.RunEvents.{Accepted, allow}
 use Rattle.promise.specs.Classes.{Kind, Start, Yes, No, MoveP, MoveW, Ack, Commit, Abort, IsA, IsC, WP, First, is-a, is-c}
 use Rattle.promise.specs.View.{Lowest}
@@ -148,17 +148,7 @@ module _ (w : ℕ → Type 0) (r : Run) (h : Held w r) (o : Owed (viewOf w r)) (
     abbrev z : Record
     z = siteAt r s
 
-    mine : z .number ≡ s
-    mine = g .places s (x .least) (x .most) .number
-
-    size : z .n ≡ r .n
-    size = g .places s (x .least) (x .most) .sites
-
-    st-is : viewOf w r .st s ≡ z .state
-    st-is = ap (λ (a : Record). a .state) (record-at r s (x .least))
-
-    ld-is : viewOf w r .ld s ≡ z .leader
-    ld-is = ap (λ (a : Record). a .leader) (record-at r s (x .least))
+    open Placed (placed g x) using (st-is, ld-is, mine, size)
 
     -- it knows who has stopped
     informed : (i : ℕ) → 1 ≤ i → i ≤ r .n → i ≢ s → In (r .stopped) i → In (z .known) i
