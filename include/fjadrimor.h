@@ -28,8 +28,15 @@
  * In that order: a ledger that stops between 2 and 3 is then the rules' stop inside a step, and the
  * others can go on without it. After each step try FJ_CONCLUDE and FJ_TAKE_OVER, until both are
  * refused with FJ_NOT_ALLOWED: that means "not yet". Tell every running site of each one that has
- * stopped (FJ_NOTICE); one that has stopped stays stopped. examples/close.c takes two sites through
- * a close. The promise that this rests on is in docs/PROOF.md.
+ * stopped (FJ_NOTICE); one that has stopped stays stopped. Never report a site that may still run,
+ * and deliver each message at most once: otherwise nothing is promised.
+ *
+ * A refused step has changed nothing, and nothing is to be sent. FJ_CONFLICT or FJ_WRONG_NAMES
+ * means a message or a notice that the protocol cannot have sent, FJ_NOT_SOUND that the bytes are
+ * no record of a site: do not post, and call a person.
+ *
+ * examples/close.c takes two sites through a close. The promise that this rests on, and what it
+ * asks of a ledger, are in docs/PROOF.md.
  */
 #ifndef FJADRIMOR_H
 #define FJADRIMOR_H

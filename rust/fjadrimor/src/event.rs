@@ -11,7 +11,8 @@ pub enum Step {
     Start { from: u8, vote: Vote },
     /// Any other message arrives. A Start without a vote is refused with 14.
     Deliver { kind: Kind, from: u8 },
-    /// The site is told that another has stopped.
+    /// The site is told that another has stopped. Never report a site that may still run, and
+    /// deliver each message at most once: otherwise nothing is promised.
     Notice(u8),
     /// The site becomes the leader, all lower ones being known to have stopped.
     TakeOver,
