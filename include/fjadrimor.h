@@ -204,7 +204,9 @@ uint8_t fj_run_fresh(uint8_t n, uint8_t *run, size_t run_len);
  *
  * Written to the first three bytes of answer: the outcome (an accepted stop is taken); how many
  * messages were written; how many sites the acting site still awaits, 0 after a stop. Written to
- * run: its bytes after the event.
+ * run: its bytes after the event. A run that comes from fj_run_fresh stays sound. Any other sound
+ * run may be left not sound by an accepted event, and then the next one is refused with 1
+ * (docs/DECISIONS.md, "Runs").
  *
  * Tested in this order:
  *   15  answer has fewer than 3 bytes: nothing at all is written

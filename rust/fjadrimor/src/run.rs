@@ -86,6 +86,9 @@ impl Run {
     }
 
     /// An event happens. A refused one changes nothing.
+    ///
+    /// A run that comes from [`Run::fresh`] stays sound. Any other sound run may be left not sound
+    /// by an accepted event, and then the next one is refused with 1 (docs/DECISIONS.md, "Runs").
     pub fn happens(&mut self, event: Event) -> Result<Ran, Refusal> {
         let [k, s, o, m, v, x] = event.fields();
         let mut answer = [0; 3];
