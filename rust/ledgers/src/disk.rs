@@ -95,12 +95,24 @@ impl Disk {
         Disk(register.join(number.to_string()))
     }
 
-    /// Makes the folder, with an open entry in it.
+    /// Makes the folder, with an open entry in it. One that is there is left as it is: its entry
+    /// may be posted.
     pub fn open(register: &Path, number: u8, entry: &Entry) -> io::Result<Disk> {
         let disk = Disk::new(register, number);
-        fs::create_dir_all(&disk.0)?;
+        named(register, fs::create_dir_all(register))?;
+        named(&disk.0, fs::create_dir(&disk.0))?;
+        sync(register)?;
         disk.save_entry(entry)?;
         Ok(disk)
+    }
+
+    /// Refuses a ledger whose folder is there.
+    pub fn is_new(&self) -> io::Result<()> {
+        let free = |exists| match exists {
+            true => Err(io::Error::other("this ledger has been opened already")),
+            false => Ok(()),
+        };
+        named(&self.0, self.0.try_exists().and_then(free))
     }
 
     /// Where the ledger listens.
@@ -111,7 +123,8 @@ impl Disk {
     /// The entry as its file has it. A ledger that was killed between saving its record and marking
     /// its entry has an open one here, and the record says what it is.
     pub fn entry(&self) -> io::Result<Entry> {
-        fs::read_to_string(self.0.join("entry"))?.parse()
+        let file = self.0.join("entry");
+        named(&file, fs::read_to_string(&file).and_then(|line| line.parse()))
     }
 
     /// Marks the entry as the saved record has it.
@@ -126,26 +139,45 @@ impl Disk {
 
     /// The site record, if the ledger has taken part in a close.
     pub fn record(&self) -> io::Result<Option<Site>> {
-        let bytes = match fs::read(self.0.join("record")) {
+        let file = self.0.join("record");
+        let bytes = match fs::read(&file) {
             Err(error) if error.kind() == io::ErrorKind::NotFound => return Ok(None),
-            read => read?,
+            read => named(&file, read)?,
         };
-        let bytes = bytes.try_into().map_err(|_| io::Error::other("a record has eight bytes"))?;
-        Site::from_bytes(bytes).map(Some).map_err(io::Error::other)
+        let bytes = bytes.try_into().map_err(|_| io::Error::other("a record has eight bytes"));
+        let site = bytes.and_then(|bytes| Site::from_bytes(bytes).map_err(io::Error::other));
+        named(&file, site).map(Some)
     }
 
     pub fn save_record(&self, site: Site) -> io::Result<()> {
         self.replace("record", &site.bytes())
     }
 
-    /// Puts a file in place of another in one move, so that a reader finds the old or the new.
+    /// Puts a file in place of another in one move, so that a reader finds the old or the new. Then
+    /// the move is on the disk too, and stays after a power cut.
     fn replace(&self, name: &str, content: &[u8]) -> io::Result<()> {
-        let fresh = self.0.join(format!("{name}.new"));
-        let mut file = File::create(&fresh)?;
-        file.write_all(content)?;
-        file.sync_all()?;
-        fs::rename(fresh, self.0.join(name))
+        let (file, fresh) = (self.0.join(name), self.0.join(format!("{name}.new")));
+        named(&fresh, write(&fresh, content))?;
+        named(&file, fs::rename(&fresh, &file))?;
+        sync(&self.0)
     }
+}
+
+/// What came of an access to a file or folder; an error says to which.
+pub fn named<T>(path: &Path, done: io::Result<T>) -> io::Result<T> {
+    done.map_err(|error| io::Error::new(error.kind(), format!("{}: {error}", path.display())))
+}
+
+/// Writes a file, through to the disk.
+fn write(file: &Path, content: &[u8]) -> io::Result<()> {
+    let mut file = File::create(file)?;
+    file.write_all(content)?;
+    file.sync_all()
+}
+
+/// Brings a folder to the disk: which files it has, and under which names.
+fn sync(folder: &Path) -> io::Result<()> {
+    named(folder, File::open(folder).and_then(|folder| folder.sync_all()))
 }
 
 #[cfg(test)]

@@ -11,7 +11,7 @@ use std::sync::mpsc::{channel, Sender};
 use std::thread;
 
 const USAGE: &str = "usage: ledgers open REGISTER SITES
-           make a folder with SITES ledgers (2 to 8), each with one open entry
+           make a folder with SITES new ledgers (2 to 8), each with one open entry
        ledgers run REGISTER SITES NUMBER [paced]
            run one ledger; `close` at ledger 1 begins the close, end of input ends the ledger
            (paced: an empty line lets it take its next action)
@@ -51,14 +51,14 @@ fn run(register: &Path, n: u8, number: u8, paced: bool) -> Result<(), Trouble> {
     heard.into_iter().try_for_each(|heard| ledger.hears(heard))
 }
 
-/// Makes a register whose entries are open and balance.
+/// Makes a register whose entries are open and balance. Where some ledger is there already, nothing
+/// is made.
 fn open(register: &Path, n: u8) -> Result<(), Trouble> {
     let date = "2031-12-31".to_string();
     let entry = Entry { date, debit: 1250, credit: 1250, standing: Standing::Open };
-    for number in 1..=n {
-        Site::fresh(n, number)?;
-        Disk::open(register, number, &entry)?;
-    }
+    Site::fresh(n, 1)?;
+    (1..=n).try_for_each(|number| Disk::new(register, number).is_new())?;
+    (1..=n).try_for_each(|number| Disk::open(register, number, &entry).map(drop))?;
     Ok(())
 }
 

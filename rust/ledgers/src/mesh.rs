@@ -1,6 +1,6 @@
 //! The sockets of a ledger: one for each other ledger.
 
-use crate::disk::Disk;
+use crate::disk::{named, Disk};
 use fjadrimor::Kind;
 use std::collections::BTreeMap;
 use std::io::{self, Read, Write};
@@ -33,7 +33,8 @@ impl Mesh {
     /// A ledger connects to the lower ones, site 1 last, and is met by the higher ones. So when
     /// site 1 has met all, every two ledgers have met, and each will hear when another stops.
     pub fn join(register: &Path, n: u8, number: u8) -> io::Result<Mesh> {
-        let listener = UnixListener::bind(Disk::new(register, number).socket())?;
+        let own = Disk::new(register, number).socket();
+        let listener = named(&own, UnixListener::bind(&own))?;
         let mut sockets = BTreeMap::new();
         for lower in (1..number).rev() {
             let mut socket = connect(&Disk::new(register, lower))?;
@@ -79,11 +80,11 @@ fn hear(mut socket: UnixStream, from: u8, inbox: &Sender<Heard>) {
 
 /// Connects to a ledger, which may not have come up yet.
 fn connect(to: &Disk) -> io::Result<UnixStream> {
-    let start = Instant::now();
+    let (start, socket) = (Instant::now(), to.socket());
     loop {
-        match UnixStream::connect(to.socket()) {
+        match UnixStream::connect(&socket) {
             Err(_) if start.elapsed() < PATIENCE => thread::sleep(Duration::from_millis(1)),
-            done => return done,
+            done => return named(&socket, done),
         }
     }
 }

@@ -11,15 +11,31 @@ const PROGRAM: &str = env!("CARGO_BIN_EXE_ledgers");
 struct Register(PathBuf);
 
 impl Register {
+    fn named(name: &str) -> Register {
+        let folder = format!("ledgers-{name}-{}", std::process::id());
+        Register(std::env::temp_dir().join(folder))
+    }
+
     fn open(name: &str) -> Register {
-        let folder = std::env::temp_dir().join(format!("ledgers-{name}-{}", std::process::id()));
-        let register = Register(folder);
+        let register = Register::named(name);
         assert!(register.asks("open", &["3"]).status.success());
         register
     }
 
     fn asks(&self, verb: &str, rest: &[&str]) -> Output {
         Command::new(PROGRAM).arg(verb).arg(&self.0).args(rest).output().expect("it runs")
+    }
+
+    /// Asks for something that is refused, and why it is.
+    fn refuses(&self, verb: &str, rest: &[&str]) -> String {
+        let output = self.asks(verb, rest);
+        assert!(!output.status.success() && output.stdout.is_empty());
+        String::from_utf8(output.stderr).expect("text")
+    }
+
+    /// The path of something in the register's folder.
+    fn path(&self, name: &str) -> String {
+        self.0.join(name).display().to_string()
     }
 
     fn standings(&self) -> [Standing; 3] {
@@ -111,8 +127,47 @@ fn a_stopped_ledger_does_not_join_again() {
     let register = Register::open("again");
     let ledgers = ["1", "2", "3"].map(|site| register.run(site, &[]));
     ledgers.into_iter().for_each(|mut ledger| ledger.says("ready"));
-    let again = register.asks("run", &["3", "1"]);
-    assert!(!again.status.success());
-    let said = String::from_utf8(again.stderr).expect("text");
+    let said = register.refuses("run", &["3", "1"]);
     assert_eq!(said, "ledgers: this ledger has stopped, and a stop is for ever\n");
+}
+
+#[test]
+fn a_posted_entry_is_not_opened_again() {
+    let register = Register::open("once");
+    let mut ledgers = ["1", "2", "3"].map(|site| register.run(site, &[]));
+    ledgers[0].types("close\n");
+    ledgers.iter_mut().for_each(|ledger| ledger.says("posted"));
+    drop(ledgers);
+    let said = register.refuses("open", &["3"]);
+    let reason = "this ledger has been opened already";
+    assert_eq!(said, format!("ledgers: {}: {reason}\n", register.path("1")));
+    assert_eq!(register.standings(), [Standing::Posted; 3]);
+}
+
+#[test]
+fn a_refused_opening_makes_nothing() {
+    let register = Register::named("nothing");
+    for n in ["0", "1", "9"] {
+        assert!(register.refuses("open", &[n]).starts_with("ledgers: refused 1: "), "{n}");
+    }
+    assert!(!register.0.exists());
+    std::fs::create_dir_all(register.path("3")).expect("a folder");
+    assert!(register.refuses("open", &["3"]).contains(&register.path("3")));
+    assert!(!register.0.join("1").exists());
+}
+
+#[test]
+fn an_error_names_its_file() {
+    let register = Register::named("nowhere");
+    for (verb, rest, file) in
+        [("run", &["3", "1"][..], "1/record.new"), ("show", &["3"], "1/entry")]
+    {
+        let start = format!("ledgers: {}: No such file", register.path(file));
+        assert!(register.refuses(verb, rest).starts_with(&start), "{verb}");
+    }
+    let register = Register::open("damaged");
+    std::fs::write(register.path("1/record"), "seven b").expect("a record");
+    let said = register.refuses("run", &["3", "1"]);
+    let record = register.path("1/record");
+    assert_eq!(said, format!("ledgers: {record}: a record has eight bytes\n"));
 }
