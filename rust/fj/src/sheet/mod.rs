@@ -4,6 +4,8 @@
 #[cfg(test)]
 mod bridge_tests;
 mod draw;
+#[cfg(test)]
+mod gallery_tests;
 mod judge;
 mod library;
 mod model;

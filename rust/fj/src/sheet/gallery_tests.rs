@@ -1,0 +1,34 @@
+//! What holds of every sheet in the gallery.
+
+use super::model::{Sheet, Transition};
+use super::notation;
+use std::path::Path;
+
+/// The name and the text of each sheet.
+fn sheets() -> Vec<(String, String)> {
+    let folder = concat!(env!("CARGO_MANIFEST_DIR"), "/../../gallery");
+    let entries = std::fs::read_dir(folder).expect("the gallery is there");
+    let files = entries.map(|entry| entry.expect("it can be listed").path());
+    let sheets = files.filter(|file| file.extension().is_some_and(|end| end == "sheet"));
+    let text = |file: &Path| std::fs::read_to_string(file).expect("a sheet is text");
+    sheets.map(|file| (file.display().to_string(), text(&file))).collect()
+}
+
+/// Whether the site could also do something else with the same messages.
+fn is_choice(sheet: &Sheet, one: &Transition) -> bool {
+    let place = |t: &Transition| (t.site, t.from, t.reads);
+    sheet.transitions.iter().any(|other| place(other) == place(one) && other.to != one.to)
+}
+
+/// A site that may refuse on its own at all may still do so where it gives its vote instead.
+#[test]
+fn a_vote_stands_where_the_site_could_still_refuse() {
+    for (name, text) in sheets() {
+        let sheet = notation::read(&text).expect("the gallery is good");
+        for vote in sheet.transitions.iter().filter(|t| t.votes) {
+            let mut own = sheet.transitions.iter().filter(|t| t.site == vote.site);
+            let never_chooses = !own.any(|t| is_choice(&sheet, t));
+            assert!(never_chooses || is_choice(&sheet, vote), "{name}:{}", vote.line);
+        }
+    }
+}
