@@ -1,11 +1,10 @@
-//! What include/fjadrimor.h tells a C programmer: its numbers are the library's, and the stack that
-//! it asks for is enough.
+//! What include/fjadrimor.h tells a C programmer: its numbers are the library's, under the names that
+//! the Rust crate has too, and the stack that it asks for is enough.
 
 use compare::inputs::journals::Journals;
 use compare::inputs::sheets::product;
 use compare::inputs::Random;
 use fjadrimor::{calls, Refusal};
-use std::collections::BTreeSet;
 
 const HEADER: &str = include_str!("../../../include/fjadrimor.h");
 
@@ -17,14 +16,22 @@ fn number(name: &str) -> usize {
     after[..digits].parse().expect("a number")
 }
 
+/// The name in C of what Rust calls `SheetSize`: `FJ_SHEET_SIZE`.
+fn in_c(name: &str) -> String {
+    let parted = |letter: char| [letter.is_uppercase().then_some('_'), Some(letter)];
+    let parts: String = name.chars().flat_map(parted).flatten().collect();
+    format!("FJ{}", parts.to_uppercase())
+}
+
 #[test]
 fn grounds_are_the_refusals() {
     let (_, rest) = HEADER.split_once("/* Grounds for refusal").expect("the grounds");
     let (grounds, _) = rest.split_once("};").expect("the end of the enum");
     let names = grounds.lines().filter_map(|line| line.split_once(" = ").map(|(name, _)| name));
-    let numbers: BTreeSet<usize> = names.map(|name| number(name.trim())).collect();
-    let refusals = Refusal::ALL.iter().map(|refusal| usize::from(refusal.number()));
-    assert_eq!(numbers, refusals.collect());
+    let told: Vec<(String, usize)> =
+        names.map(str::trim).map(|name| (name.to_string(), number(name))).collect();
+    let refusal = |is: &Refusal| (in_c(&format!("{is:?}")), usize::from(is.number()));
+    assert_eq!(told, Refusal::ALL.iter().map(refusal).collect::<Vec<_>>());
 }
 
 /// A call that asks for so much room is refused with 15, or returns 0, where there is less.

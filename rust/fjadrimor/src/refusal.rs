@@ -2,7 +2,8 @@
 
 use std::fmt;
 
-/// Says each ground once: its name, document 01's number, and what it means.
+/// Says each ground once: its name (include/fjadrimor.h has the same), document 01's number, and
+/// what it means.
 macro_rules! grounds {
     ($($name:ident = $number:literal, $sentence:literal;)*) => {
         /// A ground for refusal, with the number that document 01 gives it.
@@ -42,17 +43,17 @@ grounds! {
     WrongField = 14, "a field is outside its range";
     NoRoom = 15, "fewer than 9 bytes of room are left";
     FewWords = 20, "fewer than 4,096 words are lent";
-    SheetLength = 21, "the sheet's length is missing, 0, or not the length of what follows";
+    SheetSize = 21, "the sheet's length is missing, 0, or not the length of what follows";
     SheetVersion = 22, "the sheet's version is not 1";
     SheetCounts = 23, "the number of sites or of a site's states is missing or outside its range";
-    SheetSize = 24, "the sheet has more or fewer bytes than its counts give, or over 64 transitions";
+    SheetLength = 24, "the sheet has more or fewer bytes than its counts give, or over 64 transitions";
     SheetRange = 25, "a mark, site, state or vote is outside its range";
     ReadsNothing = 26, "a transition reads nothing";
     ReadTwice = 27, "a message is read by two sites";
-    LeavesDecision = 28, "a transition leads out of abort or out of commit";
+    NotFinal = 28, "a transition leads out of abort or out of commit";
     Cycle = 29, "a site's transitions go round in a cycle";
-    TooManyStates = 30, "more than 4,096 global states are reachable";
-    WritesOutstanding = 31, "a transition can write a message that is still outstanding";
+    ManyStates = 30, "more than 4,096 global states are reachable";
+    Clash = 31, "a transition can write a message that is still outstanding";
 }
 
 impl Refusal {

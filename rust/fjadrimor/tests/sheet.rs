@@ -71,7 +71,7 @@ fn a_damaged_sheet_is_refused() {
         bytes[place] = byte;
         Sheet::from_bytes(bytes)
     };
-    assert_eq!(Sheet::from_bytes(Vec::new()).judge(), Err(Refusal::SheetLength));
+    assert_eq!(Sheet::from_bytes(Vec::new()).judge(), Err(Refusal::SheetSize));
     assert_eq!(damaged(2, 2).judge(), Err(Refusal::SheetVersion));
     assert_eq!(damaged(6, 3).judge(), Err(Refusal::SheetRange));
     assert_eq!(damaged(6, 3).report(), "refused 25\n");
