@@ -32,3 +32,12 @@ fn a_vote_stands_where_the_site_could_still_refuse() {
         }
     }
 }
+
+#[test]
+fn a_comment_tells_what_was_left_out_and_what_the_verdict_means() {
+    for (name, text) in sheets() {
+        for start in ["# Left out: ", "# Verdict: "] {
+            assert!(text.lines().any(|line| line.starts_with(start)), "{name}: {start}");
+        }
+    }
+}
