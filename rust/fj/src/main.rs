@@ -37,21 +37,25 @@ fn journal(file: &str, as_bytes: bool) -> Result<Journal, String> {
     }
     let text = String::from_utf8_lossy(&bytes);
     let title = notation::title(&text).map(str::to_string);
-    let bytes = notation::assemble(&text).map_err(|why| format!("{file}, {why}"))?;
+    let bytes = notation::assemble(&text).map_err(|why| format!("{file}: {why}"))?;
     Ok(Journal { bytes, title })
 }
 
-/// The command's output, or why there is none.
-fn output(command: &str, plain: bool, journal: &Journal) -> Result<Vec<u8>, String> {
+/// The command's output and its exit status, or why there is no output.
+fn output(command: &str, plain: bool, journal: &Journal) -> Result<(Vec<u8>, u8), String> {
     let bytes = &journal.bytes;
     let text = match command {
-        "assemble" => return Ok(bytes.clone()),
+        "assemble" => return Ok((bytes.clone(), 0)),
         "show" => notation::show(bytes),
-        "rehearse" if plain => rehearsal::transcript(bytes)?,
-        "rehearse" => rehearsal::beside(&rehearsal::transcript(bytes)?, bytes),
+        "rehearse" => {
+            let told = rehearsal::transcript(bytes)?;
+            let status = if rehearsal::is_refused(&told) { BAD_INPUT } else { 0 };
+            let text = if plain { told } else { rehearsal::beside(&told, bytes) };
+            return Ok((text.into_bytes(), status));
+        }
         _ => chart::chart(bytes, journal.title.as_deref())?,
     };
-    Ok(text.into_bytes())
+    Ok((text.into_bytes(), 0))
 }
 
 fn bad_usage(why: &str) -> u8 {
@@ -82,7 +86,7 @@ fn run(command: &str, rest: &[String]) -> u8 {
     let done = journal(file, options.contains(&"--bytes"))
         .and_then(|journal| output(command, options.contains(&"--plain"), &journal));
     match done {
-        Ok(bytes) => written(&bytes),
+        Ok((bytes, status)) => written(&bytes).max(status),
         Err(why) => bad_input(&why),
     }
 }

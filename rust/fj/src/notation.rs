@@ -10,10 +10,9 @@ const RECORD: usize = 9;
 const REPEATS: usize = 100_000;
 
 /// Whether a file is a journal as text. One in bytes begins with a number of sites from 2 to 8, and
-/// these are control characters, which no text has.
+/// these are control characters, which no text has. An empty file is a text that says nothing.
 pub fn is_text(file: &[u8]) -> bool {
-    let printed = |byte: &u8| !byte.is_ascii_control() || byte.is_ascii_whitespace();
-    file.iter().all(printed) && !file.trim_ascii().is_empty()
+    file.iter().all(|byte| !byte.is_ascii_control() || byte.is_ascii_whitespace())
 }
 
 /// The text's title: its first line, where that is a comment.
@@ -26,7 +25,8 @@ fn bare(line: &str) -> &str {
     line.trim_start_matches('\u{feff}').trim()
 }
 
-/// The bytes of a journal as text, or the first line that is wrong and why.
+/// The bytes of a journal as text, or the first line that is wrong and why. A text that says nothing
+/// is wrong as a whole.
 pub fn assemble(text: &str) -> Result<Vec<u8>, String> {
     let mut journal = Vec::new();
     for (place, line) in text.lines().enumerate() {
@@ -36,7 +36,10 @@ pub fn assemble(text: &str) -> Result<Vec<u8>, String> {
             statement(&said, &mut journal).map_err(|why| format!("line {}: {why}", place + 1))?;
         }
     }
-    Ok(journal)
+    match journal.is_empty() {
+        true => Err("the number of sites is missing".to_string()),
+        false => Ok(journal),
+    }
 }
 
 /// Adds the bytes of one line.

@@ -31,6 +31,11 @@ pub fn transcript(journal: &[u8]) -> Result<String, String> {
     text.ok_or_else(|| "the library wrote no transcript".to_string())
 }
 
+/// Whether the journal was refused as a whole, so that nothing is told of its records.
+pub fn is_refused(transcript: &str) -> bool {
+    transcript.starts_with("refused ")
+}
+
 /// The record that a line of the transcript tells of, if it does.
 fn told(line: &str, journal: &[u8]) -> Option<Line> {
     let mut parts = line.split_whitespace();

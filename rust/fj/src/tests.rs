@@ -142,7 +142,7 @@ fn bytes_that_are_a_good_record_are_shown_in_words() {
 #[test]
 fn any_bytes_are_shown_and_assembled_again() {
     let mut next = chance(1);
-    for length in 0..400 {
+    for length in 1..400 {
         let mut bytes: Vec<u8> = (0..length).map(|_| (next() % 256) as u8).collect();
         // Every second journal has good heads, so that words and bytes are mixed.
         if length % 2 == 0 {
@@ -166,9 +166,16 @@ fn text_and_bytes_are_told_apart() {
         assert!(!is_text(&[n]));
         assert!(!is_text(&[n, b'a', b'b']));
     }
-    assert!(is_text(b"# M\xfcnchen\nsites 2"));
-    let other: [&[u8]; 4] = [b"", b"\n", b"sites 2\0", b"\n\x00\x07\x01\x05\x01\x00\x00\x00\x00"];
+    assert!(is_text(b"# M\xfcnchen\nsites 2") && is_text(b"") && is_text(b" \t\r\n"));
+    let other: [&[u8]; 2] = [b"sites 2\0", b"\n\x00\x07\x01\x05\x01\x00\x00\x00\x00"];
     assert!(other.iter().all(|file| !is_text(file)));
+}
+
+#[test]
+fn a_text_that_says_nothing_is_an_error() {
+    for text in ["", "\n", " \t\r\n\n", "\u{feff}", "# only a comment", "#\n\n# another\n"] {
+        assert_eq!(why(text), "the number of sites is missing", "{text:?}");
+    }
 }
 
 #[test]
