@@ -91,6 +91,7 @@ fn run(command: &str, rest: &[String]) -> u8 {
     }
 }
 
+/// Writes to standard output; the exit status.
 fn written(bytes: &[u8]) -> u8 {
     let mut out = std::io::stdout();
     match out.write_all(bytes).and_then(|()| out.flush()) {
@@ -108,7 +109,7 @@ fn main() -> ExitCode {
         None => bad_usage("no command is given"),
         Some((word, rest)) => match word.as_str() {
             "rehearse" | "assemble" | "show" | "chart" => run(word, rest),
-            "judge" | "sheet" => sheet::command(&arguments) as u8,
+            "judge" | "sheet" => sheet::command(&arguments),
             "--help" | "-h" | "help" => written(HELP.as_bytes()),
             _ => bad_usage(&format!("there is no command {word}")),
         },

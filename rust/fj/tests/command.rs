@@ -1,6 +1,8 @@
 //! `fj` as an operator uses it: what it prints, what it says is wrong, and its exit status.
 
 use std::io::Write;
+use std::os::fd::OwnedFd;
+use std::os::unix::net::UnixStream;
 use std::process::{Command, Stdio};
 
 /// What came of a command: its exit status, what it printed, and what it said was wrong.
@@ -49,4 +51,16 @@ fn a_wrong_line_is_named() {
     let (status, printed, wrong) = fj(&["rehearse", "-"], b"sites 2\nbegn 1 yes\n");
     assert_eq!((status, &*printed), (Some(1), ""));
     assert!(wrong.starts_with("fj: standard input: line 2: `begn 1 yes` is not understood"));
+}
+
+#[test]
+fn a_reader_may_have_seen_enough() {
+    let gallery = concat!(env!("CARGO_MANIFEST_DIR"), "/../../gallery/central-two-phase-2.sheet");
+    for arguments in [&["--help"][..], &["sheet", "--help"], &["judge", gallery]] {
+        // An output whose other end is closed.
+        let (output, _) = UnixStream::pair().expect("a pair");
+        let mut command = Command::new(env!("CARGO_BIN_EXE_fj"));
+        let came = command.args(arguments).stdout(OwnedFd::from(output)).output().expect("it runs");
+        assert_eq!((came.status.code(), &*came.stderr), (Some(0), &b""[..]), "{arguments:?}");
+    }
 }

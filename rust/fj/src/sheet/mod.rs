@@ -16,14 +16,15 @@ mod show;
 mod tests;
 
 use model::Sheet;
-use std::io::{ErrorKind, Read, Write};
+use std::io::Read;
 
 const USAGE: &str = "usage: fj judge FILE                     the report, with names
        fj judge --plain FILE             the report as the sheet program prints it
        fj sheet assemble FILE > SHEET    the bytes of a notation
        fj sheet show FILE                the notation of a sheet
        fj sheet draw FILE > SHEET.svg    each site's state diagram
-  FILE holds a sheet in the notation or in bytes; - is standard input.";
+  FILE holds a sheet in the notation or in bytes; - is standard input.
+";
 
 /// A sheet as it was given: its bytes, and the sheet with names where the bytes have the form of
 /// one.
@@ -40,32 +41,23 @@ struct Answer {
 
 /// Runs a command whose first word is `judge` or `sheet`; the exit status is 0, 1 where there was a
 /// refusal or an error, or 2 for a command that is none.
-pub fn command(args: &[String]) -> i32 {
+pub fn command(args: &[String]) -> u8 {
     let words: Vec<&str> = args.iter().map(String::as_str).collect();
     let (job, file): (fn(&Input) -> Answer, &str) = match words[..] {
-        [_, "--help"] => {
-            println!("{USAGE}");
-            return 0;
-        }
+        [_, "--help"] => return crate::written(USAGE.as_bytes()),
         ["judge", file] if !file.starts_with("--") => (judged, file),
         ["judge", "--plain", file] => (plain, file),
         ["sheet", "assemble", file] => (assembled, file),
         ["sheet", "show", file] => (shown, file),
         ["sheet", "draw", file] => (drawn, file),
         _ => {
-            eprintln!("{USAGE}");
-            return 2;
+            eprint!("{USAGE}");
+            return crate::BAD_USAGE;
         }
     };
-    let mut answer = input(file).map(|input| job(&input)).unwrap_or_else(Answer::trouble);
-    if let Err(error) = std::io::stdout().write_all(&answer.output) {
-        // Whoever reads the output may have seen enough.
-        if error.kind() != ErrorKind::BrokenPipe {
-            answer.trouble = Some(format!("standard output: {error}"));
-        }
-    }
-    answer.trouble.iter().for_each(|trouble| eprintln!("fj: {trouble}"));
-    answer.trouble.is_some().into()
+    let answer = input(file).map(|input| job(&input)).unwrap_or_else(Answer::trouble);
+    let status = crate::written(&answer.output);
+    answer.trouble.map_or(status, |trouble| crate::bad_input(&trouble))
 }
 
 /// Reads a file.
