@@ -71,17 +71,15 @@ fn input(file: &str) -> Result<Input, String> {
     taken(data).map_err(|error| format!("{file}:{}: {}", error.line, error.reason))
 }
 
-/// Takes a text without control characters as the notation, and anything else as bytes: a record
-/// has such a character where its version stands.
+/// Takes a text as the notation, and anything else as bytes: a record has a control character where
+/// its version stands, and no text has one. A byte that is not UTF-8, in a comment say, is read as
+/// some other character.
 fn taken(data: Vec<u8>) -> Result<Input, notation::Error> {
-    let written = |c: char| !c.is_control() || c.is_ascii_whitespace();
-    match std::str::from_utf8(&data) {
-        Ok(text) if !text.is_empty() && text.chars().all(written) => {
-            let sheet = notation::read(text)?;
-            Ok(Input { bytes: sheet.bytes(), sheet: Some(sheet) })
-        }
-        _ => Ok(Input { sheet: Sheet::from_bytes(&data), bytes: data }),
+    if data.is_empty() || !crate::notation::is_text(&data) {
+        return Ok(Input { sheet: Sheet::from_bytes(&data), bytes: data });
     }
+    let sheet = notation::read(&String::from_utf8_lossy(&data))?;
+    Ok(Input { bytes: sheet.bytes(), sheet: Some(sheet) })
 }
 
 impl Answer {

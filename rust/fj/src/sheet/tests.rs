@@ -111,6 +111,8 @@ fn bytes_and_text_are_told_apart() {
     assert_eq!(input(&bytes[1..]), Ok(false));
     assert_eq!(input(b""), Ok(false));
     assert_eq!(input(small("").as_bytes()), Ok(true));
+    assert_eq!(input(&[small("# M").as_bytes(), b"\xfcnchen\n"].concat()), Ok(true));
+    assert_eq!(input(small("# M\u{fc}nchen\u{85}").as_bytes()), Ok(true));
     assert!(input(b"no sheet at all").is_err());
 }
 
