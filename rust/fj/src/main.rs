@@ -72,9 +72,6 @@ fn bad_input(why: &str) -> u8 {
 fn run(command: &str, rest: &[String]) -> u8 {
     let (options, files): (Vec<&str>, Vec<&str>) =
         rest.iter().map(String::as_str).partition(|word| word.starts_with("--"));
-    if options.contains(&"--help") {
-        return written(HELP.as_bytes());
-    }
     let known =
         |option: &&str| *option == "--bytes" || *option == "--plain" && command == "rehearse";
     if let Some(option) = options.iter().find(|option| !known(option)) {
@@ -105,12 +102,15 @@ fn written(bytes: &[u8]) -> u8 {
 fn main() -> ExitCode {
     let arguments: Vec<String> =
         std::env::args_os().skip(1).map(|word| word.to_string_lossy().into_owned()).collect();
+    // Wherever these words stand, they ask for help and name no file.
+    let asks_help = arguments.iter().any(|word| word == "--help" || word == "-h");
     let status = match arguments.split_first() {
         None => bad_usage("no command is given"),
         Some((word, rest)) => match word.as_str() {
-            "rehearse" | "assemble" | "show" | "chart" => run(word, rest),
+            "judge" | "sheet" if asks_help => written(sheet::USAGE.as_bytes()),
             "judge" | "sheet" => sheet::command(&arguments),
-            "--help" | "-h" | "help" => written(HELP.as_bytes()),
+            word if asks_help || word == "help" => written(HELP.as_bytes()),
+            "rehearse" | "assemble" | "show" | "chart" => run(word, rest),
             _ => bad_usage(&format!("there is no command {word}")),
         },
     };

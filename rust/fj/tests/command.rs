@@ -64,3 +64,23 @@ fn a_reader_may_have_seen_enough() {
         assert_eq!((came.status.code(), &*came.stderr), (Some(0), &b""[..]), "{arguments:?}");
     }
 }
+
+#[test]
+fn help_is_given_wherever_it_is_asked_for() {
+    let asked = [
+        ("usage: fj judge FILE", "sheet --help"),
+        ("usage: fj judge FILE", "sheet draw --help"),
+        ("usage: fj judge FILE", "judge --plain --help"),
+        ("usage: fj judge FILE", "judge two.sheet -h"),
+        ("fj: rehearse the commit", "-h"),
+        ("fj: rehearse the commit", "help"),
+        ("fj: rehearse the commit", "rehearse -h"),
+        ("fj: rehearse the commit", "chart mine.journal --help"),
+        ("fj: rehearse the commit", "show --nonsense -h"),
+    ];
+    for (start, arguments) in asked {
+        let (status, printed, wrong) = fj(&arguments.split(' ').collect::<Vec<_>>(), b"");
+        assert_eq!((status, &*wrong), (Some(0), ""), "{arguments}");
+        assert!(printed.starts_with(start), "{arguments}: {printed}");
+    }
+}

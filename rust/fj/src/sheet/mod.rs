@@ -18,7 +18,7 @@ mod tests;
 use model::Sheet;
 use std::io::Read;
 
-const USAGE: &str = "usage: fj judge FILE                     the report, with names
+pub const USAGE: &str = "usage: fj judge FILE                     the report, with names
        fj judge --plain FILE             the report as the sheet program prints it
        fj sheet assemble FILE > SHEET    the bytes of a notation
        fj sheet show FILE                the notation of a sheet
@@ -44,7 +44,6 @@ struct Answer {
 pub fn command(args: &[String]) -> u8 {
     let words: Vec<&str> = args.iter().map(String::as_str).collect();
     let (job, file): (fn(&Input) -> Answer, &str) = match words[..] {
-        [_, "--help"] => return crate::written(USAGE.as_bytes()),
         ["judge", file] if !file.starts_with("--") => (judged, file),
         ["judge", "--plain", file] => (plain, file),
         ["sheet", "assemble", file] => (assembled, file),
