@@ -104,6 +104,23 @@ fn comments_blanks_capitals_and_order_do_not_matter() {
     assert_eq!(title("#\n# second\nsites 2"), None);
 }
 
+/// The examples that the help has of the notation. The words beside one stand after two blanks.
+fn examples() -> Vec<&'static str> {
+    let (_, rest) = crate::HELP.split_once("NOTATION\n").expect("the notation");
+    let (notation, _) = rest.split_once("TRANSCRIPT\n").expect("its end");
+    let indented = notation.lines().filter_map(|line| line.strip_prefix("  "));
+    indented.filter_map(|line| line.split("  ").next().filter(|text| !text.is_empty())).collect()
+}
+
+#[test]
+fn the_examples_in_the_help_are_understood() {
+    let examples = examples();
+    let shown = show(&assemble(&examples.join("\n")).unwrap());
+    assert_eq!(examples.iter().filter(|line| line.starts_with("stop ")).count(), 3);
+    assert!(examples.contains(&"stop 1 during conclude"));
+    assert!(shown.contains("\nstop 1 during conclude leaving none\n"), "{shown}");
+}
+
 #[test]
 fn what_the_run_will_refuse_is_kept() {
     for text in
