@@ -1,8 +1,10 @@
-//! What holds of every sheet in the gallery.
+//! What holds of every sheet in the gallery, and of the one that docs/SHEETS.md shows.
 
 use super::model::{Sheet, Transition};
-use super::notation;
+use super::{judge, library, notation};
 use std::path::Path;
+
+const PAGE: &str = include_str!("../../../../docs/SHEETS.md");
 
 /// The name and the text of each sheet.
 fn sheets() -> Vec<(String, String)> {
@@ -40,4 +42,30 @@ fn a_comment_tells_what_was_left_out_and_what_the_verdict_means() {
             assert!(text.lines().any(|line| line.starts_with(start)), "{name}: {start}");
         }
     }
+}
+
+/// The sheet that docs/SHEETS.md shows.
+fn shown() -> &'static str {
+    let (_, rest) = PAGE.split_once("## The notation").expect("the notation");
+    rest.split("```\n").nth(1).expect("a listing")
+}
+
+#[test]
+fn the_page_shows_the_sheet_without_its_comment_and_its_report() {
+    let all = sheets();
+    let (_, text) =
+        all.iter().find(|sheet| sheet.0.ends_with("central-two-phase-2.sheet")).unwrap();
+    let said = |text| str::lines(text).filter(|line| !line.is_empty() && !line.starts_with('#'));
+    assert!(said(shown()).eq(said(text)));
+    let sheet = notation::read(shown()).expect("the notation is good");
+    let report = judge::text(&sheet, &library::judge(&sheet.bytes()).expect("it is accepted"));
+    assert!(PAGE.contains(&format!(".sheet\n{report}```\n")), "{report}");
+}
+
+#[test]
+fn the_page_shows_the_error_of_the_sheet_that_it_shows() {
+    let wrong = shown().replacen("writes commit2", "writes comit2", 1);
+    let error = notation::read(&wrong).expect_err("comit2 is no message");
+    let told = format!("\nfj: two.sheet:{}: {}\n", error.line, error.reason);
+    assert!(PAGE.contains(&told), "{told}");
 }
