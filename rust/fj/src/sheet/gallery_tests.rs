@@ -6,7 +6,7 @@ use std::path::Path;
 
 const PAGE: &str = include_str!("../../../../docs/SHEETS.md");
 
-/// The name and the text of each sheet.
+/// The path and the text of each sheet.
 fn sheets() -> Vec<(String, String)> {
     let folder = concat!(env!("CARGO_MANIFEST_DIR"), "/../../gallery");
     let entries = std::fs::read_dir(folder).expect("the gallery is there");
@@ -32,6 +32,26 @@ fn a_vote_stands_where_the_site_could_still_refuse() {
             let never_chooses = !own.any(|t| is_choice(&sheet, t));
             assert!(never_chooses || is_choice(&sheet, vote), "{name}:{}", vote.line);
         }
+    }
+}
+
+/// The row of a sheet in the gallery's page, from its report.
+fn row(file: &str, report: &str) -> String {
+    let name = Path::new(file).file_stem().and_then(|stem| stem.to_str()).expect("a name");
+    let after = |start| report.lines().find_map(|line| line.strip_prefix(start)).expect(start);
+    let size = after("sheet ").replace(" sites ", " | ").replace(" states", "");
+    let (verdict, tolerance) = (after("verdict "), after("tolerance "));
+    format!("| [{name}]({name}.sheet) | {size} | {verdict} | {tolerance} |")
+}
+
+#[test]
+fn the_gallery_has_a_row_for_each_sheet() {
+    let page = include_str!("../../../../gallery/README.md");
+    for (name, text) in sheets() {
+        let sheet = notation::read(&text).expect("the gallery is good");
+        let report = String::from_utf8(library::report(&sheet.bytes())).expect("text");
+        let row = row(&name, &report);
+        assert!(page.lines().any(|line| line == row), "{row}");
     }
 }
 
