@@ -22,7 +22,7 @@ use Rattle.site.specs.declared.Site.{Site as Record}
 use Rattle.site.specs.declared.Done.{Done}
 use Rattle.site.specs.Site.{isQ, isW, isP, inState, following, knowing, follows, isOrder, endsOf, toAll, inRun, namesOf, polls, collects, awaitedOf, refused, passed, taken}
 use Rattle.site.specs.SiteFacts.{SoundSite}
-use Rattle.site.specs.SiteSteps.{sound-parts}
+use Rattle.site.specs.SiteSteps.{sound-parts, is-q, is-w, is-p}
 use Rattle.site.specs.First.{begun, beginOf, voted, startOf, noted, voteOf, tallyOf}
 use Rattle.site.specs.Leader.{orderAt, obeyed, obeyOf, ackOf, overIn, takeOverOf, settleOf}
 use Rattle.site.specs.Step.{noticeOf, concludeOf, deliverOf, ruleOf}
@@ -51,33 +51,11 @@ pub in-run : (x : Record) (i : ℕ) → inRun x i ≡ true → (1 ≤ i) × (i �
 unfolding inRun
 in-run x i h = (leb-true 1 i (and-l (leb 1 i) (leb i (x .n)) h), leb-true i (x .n) (and-r (leb 1 i) (leb i (x .n)) h))
 
--- States by their tests.
-is-q : (s : State) → isQ s ≡ true → s ≡ Q
-is-q Q e = refl
-is-q W e = absurd (false≢true e)
-is-q P e = absurd (false≢true e)
-is-q A e = absurd (false≢true e)
-is-q C e = absurd (false≢true e)
-
 not-q : (s : State) → isQ s ≡ false → IsQ s → ⊥
 not-q s e x = true≢false (sym (ap isQ (classes.is-q s x)) ∙ e)
 
-is-w : (s : State) → isW s ≡ true → s ≡ W
-is-w Q e = absurd (false≢true e)
-is-w W e = refl
-is-w P e = absurd (false≢true e)
-is-w A e = absurd (false≢true e)
-is-w C e = absurd (false≢true e)
-
 not-w : (s : State) → isW s ≡ false → s ≢ W
 not-w s e d = true≢false (sym (ap isW d) ∙ e)
-
-is-p : (s : State) → isP s ≡ true → s ≡ P
-is-p Q e = absurd (false≢true e)
-is-p W e = absurd (false≢true e)
-is-p P e = refl
-is-p A e = absurd (false≢true e)
-is-p C e = absurd (false≢true e)
 
 -- What is to be shown of a step that ends with an outcome: a refusal is no conflict, else X.
 abbrev pub Sure : Outcome → Type 0 → Type 0

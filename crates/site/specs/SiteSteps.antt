@@ -125,21 +125,21 @@ parts-ends (abort l) = lt-ltb _ _ l
 
 -- ---- states by their tests
 
-is-q : (q : State) → isQ q ≡ true → q ≡ Q
+pub is-q : (q : State) → isQ q ≡ true → q ≡ Q
 is-q Q e = refl
 is-q W e = absurd (false≢true e)
 is-q P e = absurd (false≢true e)
 is-q A e = absurd (false≢true e)
 is-q C e = absurd (false≢true e)
 
-is-w : (q : State) → isW q ≡ true → q ≡ W
+pub is-w : (q : State) → isW q ≡ true → q ≡ W
 is-w Q e = absurd (false≢true e)
 is-w W e = refl
 is-w P e = absurd (false≢true e)
 is-w A e = absurd (false≢true e)
 is-w C e = absurd (false≢true e)
 
-is-p : (q : State) → isP q ≡ true → q ≡ P
+pub is-p : (q : State) → isP q ≡ true → q ≡ P
 is-p Q e = absurd (false≢true e)
 is-p W e = absurd (false≢true e)
 is-p P e = refl
