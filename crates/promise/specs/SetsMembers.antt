@@ -49,9 +49,6 @@ module _ (a b j : ℕ) where
   pub both-r : In (both a b) j → In b j
   both-r h = and-r (has a j) (has b j) (sym (has-both a b j) ∙ h)
 
-  pub in-both : In a j → In b j → In (both a b) j
-  in-both p q = has-both a b j ∙ and-i (has a j) (has b j) p q
-
   pub minus-in : In (minus a b) j → In a j
   minus-in h = and-l (has a j) (not (has b j)) (sym (has-minus a b j) ∙ h)
 
