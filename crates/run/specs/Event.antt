@@ -101,6 +101,6 @@ happened r (Cut s t x) = grounded r s t (ranCut (stepOf (siteAt r s) t .outcome)
 unfoldable pub eventOf : Run → Event → Ran
 eventOf r e = cond (soundRun r) (happened r e) (refusedRun r 1)
 
--- an event of a run whose soundness is not asked for, beyond that it has a record for each site
+-- an event of a run whose soundness is not asked for, beyond that it has a record for each site and that of the site that steps is sound
 unfoldable pub goesOf : Run → Event → Ran
 goesOf r e = cond (leb (r .n) 8) (happened r e) (refusedRun r 1)

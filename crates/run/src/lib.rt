@@ -253,7 +253,7 @@ impl Run {
         net::sound(&self.net, n, stopped)
     }
 
-    // Site s is asked for a step: its answer, or the first of the grounds 2 to 6 on which the step is refused.
+    // Site s is asked for a step: its answer, or the first ground on which the step is refused, 2 to 4 and then the site's own.
     fn reply(self, s: u8, step: Step) -> Reply
         requires { ⌜ self .n ≤ 8 ⌝ }
         ensures { λ r. ⌜ r ≡ replyOf self s step ⌝ }
@@ -362,7 +362,7 @@ impl Run {
     }
 
     // The next event of a run that is known to be sound, as every run from fresh is: that is not tested again.
-    // A run of more than eight sites is refused.
+    // A run of more than eight sites is refused with 1, and so, after 2 to 4, is a step of a site whose own record is not sound.
     pub fn goes(self, event: Event) -> Ran
         ensures { λ r. ⌜ r ≡ goesOf self event ⌝ }
     {
