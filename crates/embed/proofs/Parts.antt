@@ -1,10 +1,11 @@
 -- Lists written from the front on, and parts of a slice that come back.
 -- Assumes nothing.
-use Prim.Native.Nat.{ℕ, suc, _+_, _-_, _*_, _≤_, _<_}
+use Prim.Native.Nat.{ℕ, suc, _+_, _-_, _*_, _≤_, _<_, zero-le}
 use mathlib.Core.List.{List, [], _∷_, _++_, map, flatMap, append-nil, append-assoc}
 use mathlib.Core.Path.{_≡_, refl, sym, ap, _∙_}
-use native.Mathlib.Nat.{le-of-eq, le-of-lt, add-comm, mul-zero, mul-suc, add-sub-of-le}
+use native.Mathlib.Nat.{le-of-eq, le-of-lt, le-trans, add-comm, mul-zero, mul-suc, mul-le-mul-left, add-sub-of-le}
 use native.Mathlib.Numerals.{add-one}
+use native.Mathlib.Omega.{arith}
 use lib.ListN.{length, getD, set, take, drop, length-append, length-drop, length-map, drop-of-length-le}
 use lib.Seq.{take-all, take-at, drop-at, drop-drop, drop-cons, take-suc, set-at, append-snoc, length-take-le}
 use borrow.Author.Tests.{le-leb}
@@ -62,7 +63,7 @@ front-more d s j hd hs =
 -- ---- elements written one after the other, each in w bytes
 
 -- the first i elements of xs, then what d has there
-abbrev pub written : {A : Type 0} → (A → List ℕ) → ℕ → List ℕ → List A → ℕ → List ℕ
+abbrev written : {A : Type 0} → (A → List ℕ) → ℕ → List ℕ → List A → ℕ → List ℕ
 written put w d xs i = flatMap put (take i xs) ++ drop (w * i) d
 
 flat-append : {A : Type 0} (put : A → List ℕ) (a b : List A) → flatMap put (a ++ b) ≡ flatMap put a ++ flatMap put b
@@ -84,7 +85,7 @@ module _ {A : Type 0} (put : A → List ℕ) (w : ℕ) (wide : (x : A) → lengt
   taken-length : (xs : List A) (i : ℕ) → i ≤ length xs → length (flatMap put (take i xs)) ≡ w * i
   taken-length xs i h = flat-length (take i xs) ∙ ap (λ (k : ℕ). w * k) (length-take-le i xs h)
 
-  pub length-written : (d : List ℕ) (xs : List A) (i : ℕ) → i ≤ length xs → w * i ≤ length d → length (written put w d xs i) ≡ length d
+  length-written : (d : List ℕ) (xs : List A) (i : ℕ) → i ≤ length xs → w * i ≤ length d → length (written put w d xs i) ≡ length d
   length-written d xs i h f = simp (length-append, taken-length xs i h, length-drop) (add-sub-of-le f)
 
   module _ (none : A) where
@@ -96,7 +97,7 @@ module _ {A : Type 0} (put : A → List ℕ) (w : ℕ) (wide : (x : A) → lengt
         ∙ ap (λ (l : List ℕ). flatMap put (take i xs) ++ l) (append-nil (put (getD xs i none)))
 
     -- one more element goes into the part from its place on
-    pub written-more : (d : List ℕ) (xs : List A) (i : ℕ) → i < length xs → (l last : List ℕ) → l ≡ written put w d xs i
+    written-more : (d : List ℕ) (xs : List A) (i : ℕ) → i < length xs → (l last : List ℕ) → l ≡ written put w d xs i
         → last ≡ put (getD xs i none) ++ drop w (take (length l - w * i) (drop (w * i) l))
         → putMid (w * i) (length l - w * i) l last ≡ written put w d xs (i + 1)
     written-more d xs i there l last e v =
@@ -105,3 +106,36 @@ module _ {A : Type 0} (put : A → List ℕ) (w : ℕ) (wide : (x : A) → lengt
         ∙ ap (λ (x : List ℕ). x ++ drop w (drop (w * i) d)) (sym (flat-more xs i there))
         ∙ ap (λ (x : List ℕ). flatMap put (take (suc i) xs) ++ x) (drop-drop w (w * i) d ∙ ap (λ (k : ℕ). drop k d) (sym (mul-suc w i)))
         ∙ ap (written put w d xs) (sym (add-one i))
+
+-- i of n elements are written where d stood
+pub record Writing {A : Type 0} (put : A → List ℕ) (w n : ℕ) (d : List ℕ) (xs : List A) (i : ℕ) (l : List ℕ) : Type 0 where
+  pub within : i ≤ n
+  pub all : length xs ≡ n
+  pub room : w * n ≤ length d
+  pub long : length l ≡ length d
+  pub now : l ≡ written put w d xs i
+
+pub writing-begins : {A : Type 0} (put : A → List ℕ) (w n : ℕ) (d : List ℕ) (xs : List A) → length xs ≡ n → w * n ≤ length d → Writing put w n d xs 0 d
+unfolding flatMap
+writing-begins put w n d xs e h =
+    record { within = zero-le; all = e; room = h; long = refl; now = sym (ap (λ (k : ℕ). drop k d) (mul-zero w)) }
+
+module _ {A : Type 0} {put : A → List ℕ} {w n : ℕ} {d : List ℕ} {xs : List A} {i : ℕ} {l : List ℕ} (r : Writing put w n d xs i l) where
+  pub writing-goes-on : ((x : A) → length (put x) ≡ w) → (none : A) → i < n → (last : List ℕ)
+      → last ≡ put (getD xs i none) ++ drop w (take (length l - w * i) (drop (w * i) l))
+      → Writing put w n d xs (i + 1) (putMid (w * i) (length l - w * i) l last)
+  writing-goes-on wide none h last v =
+      let more = written-more put w wide none d xs i (omega (arith, r .all)) l last (r .now) v in
+      let fits : w * (i + 1) ≤ length d = le-trans (mul-le-mul-left w (omega arith)) (r .room) in
+      record {
+        within = omega arith;
+        all = r .all;
+        room = r .room;
+        long = ap length more ∙ length-written put w wide d xs (i + 1) (omega (arith, r .all)) fits;
+        now = more;
+      }
+
+  pub writing-ends : n ≤ i → l ≡ flatMap put xs ++ drop (w * n) d
+  writing-ends h =
+      let e : i ≡ n = omega (arith, r .within) in
+      r .now ∙ ap (written put w d xs) e ∙ ap (λ (x : List A). flatMap put x ++ drop (w * n) d) (take-all n xs (le-of-eq (r .all)))
