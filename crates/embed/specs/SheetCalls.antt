@@ -3,12 +3,12 @@
 use Prim.Native.Nat.{ℕ, _/_, _%_, _≤_, _<_}
 use mathlib.Core.Bool.{Bool, true, false}
 use mathlib.Core.List.{List, [], _∷_, _++_, flatMap}
-use mathlib.Core.Path.{_≡_, sym, ap, _∙_}
+use mathlib.Core.Path.{_≡_, refl, sym, ap, _∙_}
 use native.Mathlib.Omega.{arith}
-use lib.ListN.{length, drop}
+use lib.ListN.{length, drop, replicate}
 use Rattle.judge.specs.declared.Local.{Local}
 use Rattle.judge.specs.declared.Verdict.{Verdict}
-use Rattle.judge.specs.Outcome.{Outcome}
+use Rattle.judge.specs.Outcome.{refusedBy, Outcome}
 use Rattle.judge.specs.OutcomeLaws.{Same, one-outcome}
 
 -- ---- a verdict as bytes
@@ -39,6 +39,10 @@ headBytes v =
 -- then 32 local states. A refused verdict is all zeros, and so is a local state that the sheet does not have
 unfoldable pub verdictBytes : Verdict → List ℕ
 verdictBytes v = headBytes v ++ flatMap localBytes (v .locals)
+
+pub refused-bytes : (g : ℕ) → verdictBytes (refusedBy g) ≡ replicate 206 0
+unfolding verdictBytes headBytes localBytes flatMap
+refused-bytes g = refl
 
 -- ---- the call
 

@@ -3,7 +3,7 @@
 ghost use mathlib.Core.Path.{_≡_};
 ghost use mathlib.Core.List.{_++_, flatMap};
 ghost use Prim.Native.Nat.{_≤_, _%_};
-ghost use lib.ListN.{length, drop};
+ghost use lib.ListN.{length, drop, replicate};
 ghost use Rattle.report.specs.Report.{Reported};
 ghost use Rattle.embed.specs.SheetCalls.{flagOf, flagsOf, localBytes, headBytes, verdictBytes, JudgeCall};
 use judge::Local;
@@ -41,7 +41,7 @@ fn put_local(part: &mut [u8], local: Local)
     requires { ⌜ 6 ≤ length (now part) ⌝ }
     ensures { λ _. ⌜ now (part .exit) ≡ localBytes local ++ drop 6 (now (part .entry)) ⌝ }
 {
-    let set = local.concurrent;
+    let set = local.concurrent as u64;
     let row = [
         flags(local.reached, local.committable),
         local.decision,
@@ -98,6 +98,15 @@ fn put_verdict(out: &mut [u8], verdict: Verdict)
     put_locals(&mut out[14..], locals);
 }
 
+// What a refusal leaves of the room: zeros.
+fn put_zeros(out: &mut [u8])
+    requires { ⌜ 206 ≤ length (now out) ⌝ }
+    ensures { λ _. ⌜ now (out .exit) ≡ replicate 206 0 ++ drop 206 (now (out .entry)) ⌝ }
+{
+    let zeros = [0u8; 206];
+    text::put(out, 0, &zeros);
+}
+
 // The judge's verdict on a sheet, and the reachable states in the lent words. Returns 0 or the refusal.
 #[no_mangle]
 pub extern "C" fn fj_sheet_judge(sheet: &[u8], words: &mut [u64], out: &mut [u8]) -> u8
@@ -107,8 +116,13 @@ pub extern "C" fn fj_sheet_judge(sheet: &[u8], words: &mut [u64], out: &mut [u8]
         return 15;
     }
     let verdict = judge::judge(sheet, words);
+    let ground = verdict.refusal;
+    if ground != 0 {
+        put_zeros(out);
+        return ground;
+    }
     put_verdict(out, verdict);
-    verdict.refusal
+    0
 }
 
 // The report on a sheet, with the words as the judge leaves them. Returns the text's length, 0 where the room is too small.

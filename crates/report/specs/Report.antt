@@ -9,7 +9,7 @@ use lib.ListN.{length, getD, drop}
 use Rattle.text.specs.Said.{said}
 use Rattle.text.specs.Decimal.{decimal}
 use Rattle.sets.specs.Sets.{bit}
-use Rattle.sheet.specs.Grounds.{readOf}
+use Rattle.sheet.specs.Grounds.{sheetOf}
 use Rattle.sheet.specs.declared.Sheet.{Sheet}
 use Rattle.judge.specs.Facts.{stands, markOf, noLocal}
 use Rattle.judge.specs.Outcome.{Outcome}
@@ -105,5 +105,5 @@ textOf s v = cond (eqb (v .refusal) 0) (acceptedText s v) (refusedLine (v .refus
 -- judged, its text stands at the start, the rest of the room is unchanged, and the answer is the length
 pub data Reported (bytes w₀ w t₀ t : List ℕ) (r : ℕ) : Type 0 where
   cramped : length t₀ < 3722 → w ≡ w₀ → t ≡ t₀ → r ≡ 0 → Reported bytes w₀ w t₀ t r
-  told : 3722 ≤ length t₀ → (v : Verdict) → Outcome bytes w₀ w v → r ≡ length (textOf (readOf bytes .sheet) v)
-      → t ≡ textOf (readOf bytes .sheet) v ++ drop r t₀ → Reported bytes w₀ w t₀ t r
+  told : 3722 ≤ length t₀ → (v : Verdict) → Outcome bytes w₀ w v → r ≡ length (textOf (sheetOf bytes) v)
+      → t ≡ textOf (sheetOf bytes) v ++ drop r t₀ → Reported bytes w₀ w t₀ t r

@@ -26,7 +26,6 @@ pub fn report(bytes: &[u8], words: &mut [u64], out: &mut [u8]) -> usize
     if ground != 0 {
         return line::put_refused(out, ground);
     }
-    let read = sheet::read(bytes);
-    let sheet = read.sheet;
+    let sheet = sheet::parts(bytes);
     line::put_accepted(out, sheet, verdict)
 }

@@ -112,7 +112,7 @@ fn put_line(out: &mut [u8], at: usize, p: usize, mark: u8, local: Local) -> usiz
     ensures { λ r. ⌜ Put (now (out .entry)) at (lineOf p mark local) (now (out .exit)) r ⌝ }
 {
     let reached = local.reached;
-    let concurrent = local.concurrent;
+    let concurrent = local.concurrent as u64;
     let committable = local.committable;
     let decision = local.decision;
     let name = put_name(out, at, p);

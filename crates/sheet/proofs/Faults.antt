@@ -1,7 +1,7 @@
 -- The faults by number are those that the grounds name.
 -- Assumes nothing.
 use mathlib.Core.Path.{_≡_, refl}
-use Rattle.sheet.specs.Grounds.{someMove, misplaced, unprompted, contended, undone}
+use Rattle.sheet.specs.Grounds.{someMove, misplaced, unprompted, undone}
 use Rattle.sheet.specs.Faults.{faultOf}
 use Rattle.sheet.specs.declared.Sheet.{Sheet}
 
@@ -13,10 +13,6 @@ module _ (s : Sheet) where
   pub fault-26 : someMove (faultOf 26) s ≡ unprompted s
   unfolding faultOf
   fault-26 = refl
-
-  pub fault-27 : someMove (faultOf 27) s ≡ contended s
-  unfolding faultOf
-  fault-27 = refl
 
   pub fault-28 : someMove (faultOf 28) s ≡ undone s
   unfolding faultOf

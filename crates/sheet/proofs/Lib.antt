@@ -1,2 +1,3 @@
 pub mod Arrows
 pub mod Faults
+pub mod Readers

@@ -1,6 +1,6 @@
 -- A record that passes grounds 21 to 28 has parts in their ranges; one that passes ground 29 too is fine.
 -- Assumes nothing.
-use Prim.Native.Nat.{ℕ, _+_, _-_, _/_, _%_, _^_, _≤_, _<_}
+use Prim.Native.Nat.{ℕ, _+_, _-_, _*_, _/_, _%_, _^_, _≤_, _<_}
 use mathlib.Core.Bool.{Bool, true, false, not, _||_}
 use mathlib.Core.List.{List}
 use mathlib.Core.Path.{_≡_, sym, subst, _∙_}
@@ -13,8 +13,9 @@ use lib.ListN.{length, getD, List·getD-eq-default}
 use Rattle.sheet.specs.Index.{any, table}
 use Rattle.sheet.specs.IndexLaws.{any-at, any-some, and-true, or-neither, table-at, length-table}
 use Rattle.sheet.specs.Record.{byte, wordAt, sitesOf, countOf, countsOf, markOf, movesOf, movesAt, transitionAt, transitionFrom, transitionIn, transitionOf, partsBy, partsOf, statesOf, markIn, moveOf, noTransition, lengthOf, lengthFor}
-use Rattle.sheet.specs.Grounds.{outside, miscountedAt, miscounted, mismeasuredBy, mismarked, misplaced, unranged, readsNothing, shares, readElsewhere, leaves, undoes, someMove, goes, leads}
+use Rattle.sheet.specs.Grounds.{misframed, outside, miscountedAt, miscounted, mismeasuredBy, mismarked, misplaced, unranged, readsNothing, shares, readElsewhere, leaves, undoes, someMove, goes, leads}
 use Rattle.sheet.specs.GroundLaws.{Framed, Ordered, Passes}
+use Rattle.sheet.specs.Faults.{Sited}
 use Rattle.sheet.specs.Paths.{Cycle}
 use Rattle.sheet.specs.Fine.{FineMove, Fine}
 use Rattle.sheet.specs.declared.Transition.{Transition}
@@ -135,26 +136,44 @@ move-none l k h = go (decLt k 64)
     go (yes b) = table-at f 64 k noTransition b ∙ simp (le-ltb _ _ h)
     go (no b) = List·getD-eq-default (table f 64) noTransition {n = k} (omega (arith, length-table f 64))
 
--- a record that passes ground 24 has at most 64 transitions
-pub moves-few : (l : List ℕ) → Framed l → movesOf l (sitesOf l) (countsOf l) ≤ 64
-unfolding mismeasuredBy
-moves-few l f =
-    let n : ℕ = sitesOf l in
-    let cs : List ℕ = countsOf l in
-    let wrong : Bool = not (eqb (lengthOf l) (lengthFor n cs (movesOf l n cs))) in
-    let a = or-neither (leb (length l) (movesAt n cs) || ltb 64 (movesOf l n cs)) wrong (f .measured) in
-    ltb-false _ _ (or-neither (leb (length l) (movesAt n cs)) (ltb 64 (movesOf l n cs)) (a .0) .1)
+-- a record that passes grounds 21 to 24 is as long as its counts say, and has at most 64 transitions and two to four sites
+module _ (l : List ℕ) (f : Framed l) where
+  measured : (leb (length l) (movesAt (sitesOf l) (countsOf l)) || ltb 64 (movesOf l (sitesOf l) (countsOf l)) ≡ false) × (lengthOf l ≡ lengthFor (sitesOf l) (countsOf l) (movesOf l (sitesOf l) (countsOf l)))
+  unfolding mismeasuredBy
+  measured = let a = or-neither _ _ (f .measured) in (a .0, eqb-true _ _ (not-false _ (a .1)))
+
+  pub moves-few : movesOf l (sitesOf l) (countsOf l) ≤ 64
+  moves-few = ltb-false _ _ (or-neither (leb (length l) (movesAt (sitesOf l) (countsOf l))) _ (measured .0) .1)
+
+  pub whole : length l ≡ movesAt (sitesOf l) (countsOf l) + 1 + 12 * movesOf l (sitesOf l) (countsOf l)
+  unfolding misframed
+  whole =
+      let a = or-neither (ltb (length l) 2 || not (eqb (length l) (2 + lengthOf l))) (eqb (lengthOf l) 0) (f .framed) in
+      let b = or-neither (ltb (length l) 2) (not (eqb (length l) (2 + lengthOf l))) (a .0) in
+      let long : length l ≡ 2 + lengthOf l = eqb-true (length l) (2 + lengthOf l) (not-false _ (b .1)) in
+      omega (arith, long, measured .1)
+
+  sites-among : Among 2 4 (sitesOf l)
+  unfolding miscounted
+  sites-among = among 2 4 (sitesOf l) (or-neither _ _ (f .counted) .0)
+
+  pub sites-few : sitesOf l ≤ 4
+  sites-few = sites-among .high
+
+-- without a fault of ground 25 each transition is of one of four sites
+pub sited : (s : Sheet) → s .sites ≤ 4 → someMove misplaced s ≡ false → Sited s
+sited s four e =
+    record {
+      least = λ i h. placed s (moveOf s i) (move-not misplaced s i e h) .least;
+      most = λ i h. omega (arith, placed s (moveOf s i) (move-not misplaced s i e h) .most);
+    }
 
 -- grounds 21 to 24 about the parts
 module _ (l : List ℕ) (p : Passes l) where
-  sites-among : Among 2 4 (sitesOf l)
-  unfolding miscounted
-  sites-among = among 2 4 (sitesOf l) (or-neither _ _ (p .frame .counted) .0)
-
   count-there : (i : ℕ) → i < sitesOf l → Among 1 8 (getD (countsOf l) i 0)
   unfolding miscounted miscountedAt countsOf countOf
   count-there i h =
-      let four : sitesOf l ≤ 4 = sites-among .high in
+      let four : sitesOf l ≤ 4 = sites-few l (p .frame) in
       let is : getD (countsOf l) i 0 ≡ byte l (4 + i) = table-at (countOf l) 4 i 0 (omega arith) ∙ simp (lt-ltb _ _ h) in
       let a = among 1 8 (byte l (4 + i)) (any-at (miscountedAt l) (sitesOf l) i (or-neither (outside 2 4 (sitesOf l)) (any (miscountedAt l) (sitesOf l)) (p .frame .counted) .1) h) in
       record { low = omega (arith, a .low); high = omega (arith, a .high) }
@@ -202,7 +221,7 @@ module _ (l : List ℕ) (p : Passes l) where
       let to : t .to ≡ r = eqb-true _ _ (a .1) in
       let m = move-placed (partsOf l) (p .parts) (f .place) (f .below) in
       let few : statesOf (partsOf l) (t .site) ≤ 8 = count-few (t .site - 1) in
-      let four : sitesOf l ≤ 4 = sites-among .high in
+      let four : sitesOf l ≤ 4 = sites-few l (p .frame) in
       (omega (arith, m .least), omega (arith, m .most), omega (arith, m .from), omega (arith, m .to))
 
 -- an accepted record's parts are fine
@@ -238,8 +257,8 @@ module _ (l : List ℕ) (small : (k : ℕ) → byte l k < 256) (p : Passes l) wh
   unfolding partsBy
   fine none =
       record {
-        least = sites-among l p .low;
-        most = sites-among l p .high;
+        least = sites-among l (p .frame) .low;
+        most = sites-among l (p .frame) .high;
         some = λ i h. count-there l p i h .low;
         many = count-few l p;
         absent = count-absent l p;

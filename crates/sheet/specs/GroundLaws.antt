@@ -4,14 +4,13 @@ use Prim.Native.Nat.{ℕ, _≤_}
 use mathlib.Core.Bool.{Bool, true, false, cond}
 use mathlib.Core.List.{List}
 use mathlib.Core.Logic.{_≢_}
-use mathlib.Core.Path.{_≡_, refl, sym, ap₂, _∙_}
+use mathlib.Core.Path.{_≡_, refl, sym, _∙_}
 use native.Mathlib.Decide.{ℕ-discrete}
 use native.Mathlib.Omega.{arith}
 use borrow.Author.Tests.{eq-eqb, ne-eqb}
 use Rattle.sheet.specs.Record.{partsOf, noSheet}
-use Rattle.sheet.specs.Grounds.{misframed, misversioned, miscounted, mismeasured, unranged, unprompted, contended, undone, cyclic, frameGround, partsGround, groundOf, readOf}
+use Rattle.sheet.specs.Grounds.{misframed, misversioned, miscounted, mismeasured, unranged, unprompted, contended, undone, cyclic, frameGround, partsGround, groundOf, sheetOf}
 use Rattle.sheet.specs.declared.Sheet.{Sheet}
-use Rattle.sheet.specs.declared.Sheeted.{Sheeted}
 
 -- no ground from 21 to 24 holds
 pub record Framed (l : List ℕ) : Type 0 where
@@ -99,15 +98,11 @@ pub parts-next : (l : List ℕ) → frameGround l ≡ 0 → groundOf l ≡ parts
 unfolding groundOf
 parts-next l e = simp (eq-eqb _ _ e)
 
-abbrev answer : ℕ → Sheet → Sheeted
-answer g s = record { refusal = g; sheet = s }
+-- a record without a ground of the frame has its parts, another none
+pub sheet-is : (l : List ℕ) → frameGround l ≡ 0 → sheetOf l ≡ partsOf l
+unfolding sheetOf
+sheet-is l e = simp (eq-eqb _ _ e)
 
--- the answer with a ground, and the one without
-pub refused-is : (l : List ℕ) (r : Sheeted) → groundOf l ≢ 0 → r .refusal ≡ groundOf l → r .sheet ≡ noSheet → r ≡ readOf l
-unfolding readOf
-refused-is l r d e n =
-    ap₂ answer e (n ∙ simp (ne-eqb _ _ d))
-
-pub accepted-is : (l : List ℕ) (s : Sheet) → groundOf l ≡ 0 → s ≡ partsOf l → answer 0 s ≡ readOf l
-unfolding readOf
-accepted-is l s e n = simp (e, n)
+pub sheet-none : (l : List ℕ) → frameGround l ≢ 0 → sheetOf l ≡ noSheet
+unfolding sheetOf
+sheet-none l d = simp (ne-eqb _ _ d)

@@ -1,4 +1,4 @@
--- Grounds 21 to 29 (01, "Grounds for refusal"), and the reader's answer: the first ground that holds, else the parts.
+-- Grounds 21 to 29 (01, "Grounds for refusal"), and what the reader answers: the first ground that holds, and the sheet.
 -- Grounds 21 to 24 are about the bytes, 25 to 29 about the parts. Each is tested over the whole sheet before the next.
 -- Assumes nothing.
 use Prim.Native.Nat.{ℕ, zero, suc, _+_, _/_, _%_}
@@ -11,7 +11,6 @@ use Rattle.sheet.specs.Index.{any}
 use Rattle.sheet.specs.Record.{byte, lengthOf, sitesOf, countsOf, movesAt, lengthFor, movesOf, partsOf, noSheet, statesOf, markIn, moveOf}
 use Rattle.sheet.specs.declared.Transition.{Transition}
 use Rattle.sheet.specs.declared.Sheet.{Sheet}
-use Rattle.sheet.specs.declared.Sheeted.{Sheeted}
 
 -- Grounds about the bytes.
 
@@ -137,10 +136,6 @@ partsGround s =
 unfoldable pub groundOf : List ℕ → ℕ
 groundOf l = cond (eqb (frameGround l) 0) (partsGround (partsOf l)) (frameGround l)
 
--- the reader's answer
-unfoldable pub readOf : List ℕ → Sheeted
-readOf l =
-    record {
-      refusal = groundOf l;
-      sheet = cond (eqb (groundOf l) 0) (partsOf l) noSheet;
-    }
+-- the sheet of a record: its parts, none where a ground from 21 to 24 stands against it
+unfoldable pub sheetOf : List ℕ → Sheet
+sheetOf l = cond (eqb (frameGround l) 0) (partsOf l) noSheet

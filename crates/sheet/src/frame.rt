@@ -26,10 +26,10 @@ pub(crate) fn frame_ground(bytes: &[u8]) -> u8
 fn is_misframed(bytes: &[u8]) -> bool
     ensures { λ r. ⌜ r ≡ misframed (now (bytes .entry)) ⌝ }
 {
-    let length = record::pair_at(bytes, 0) as usize;
     if bytes.len() < 2 {
         return true;
     }
+    let length = record::pair_at(bytes, 0) as usize;
     if bytes.len() != 2 + length {
         return true;
     }
@@ -71,12 +71,12 @@ fn is_mismeasured(bytes: &[u8]) -> bool
 {
     let moves_at = record::moves_at(bytes);
     let moves = record::byte_at(bytes, moves_at) as usize;
-    let length = record::pair_at(bytes, 0) as usize;
     if bytes.len() <= moves_at {
         return true;
     }
     if 64 < moves {
         return true;
     }
+    let length = record::pair_at(bytes, 0) as usize;
     length != moves_at - 1 + 12 * moves
 }

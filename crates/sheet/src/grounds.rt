@@ -1,10 +1,13 @@
 // Grounds 25 to 29, about the parts of a sheet. Each is tested over the whole sheet before the next.
 ghost use mathlib.Core.Path.{_≡_};
 ghost use Prim.Native.Nat.{_+_, _-_, _*_, _≤_};
+ghost use mathlib.Core.Bool.{not};
+ghost use lib.Bits.{bitAnd};
+ghost use lib.Dec.{eqb};
 ghost use lib.ListN.{getD};
-ghost use Rattle.sheet.specs.Index.{any};
-ghost use Rattle.sheet.specs.Grounds.{mismarked, misplaced, shares, readElsewhere, undoes, someMove, partsGround};
-ghost use Rattle.sheet.specs.Faults.{faultOf};
+ghost use Rattle.sheet.specs.Index.{any, table};
+ghost use Rattle.sheet.specs.Grounds.{mismarked, misplaced, contended, undoes, someMove, partsGround};
+ghost use Rattle.sheet.specs.Faults.{faultOf, Sited, withReads, readWithout, readBeside};
 use super::Sheet;
 use super::Transition;
 use super::cycle;
@@ -13,7 +16,7 @@ use super::record;
 
 // The first of grounds 25 to 29, 0 for none.
 pub(crate) fn parts_ground(sheet: Sheet) -> u8
-    requires { ⌜ sheet .moves ≤ 64 ⌝ }
+    requires { ⌜ (sheet .moves ≤ 64) × (sheet .sites ≤ 4) ⌝ }
     ensures { λ r. ⌜ r ≡ partsGround sheet ⌝ }
 {
     let marks = sheet.marks;
@@ -26,7 +29,7 @@ pub(crate) fn parts_ground(sheet: Sheet) -> u8
     if some_move(sheet, 26) {
         return 26;
     }
-    if some_move(sheet, 27) {
+    if is_contended(sheet) {
         return 27;
     }
     if some_move(sheet, 28) {
@@ -52,7 +55,7 @@ fn some_mark(marks: [u8; 32]) -> bool
     false
 }
 
-// Whether some transition gives one of grounds 25 to 28.
+// Whether some transition gives ground 25, 26 or 28.
 fn some_move(sheet: Sheet, ground: u8) -> bool
     requires { ⌜ sheet .moves ≤ 64 ⌝ }
     ensures { λ r. ⌜ r ≡ someMove (faultOf ground) sheet ⌝ }
@@ -69,15 +72,13 @@ fn some_move(sheet: Sheet, ground: u8) -> bool
     false
 }
 
-// Whether a transition gives one of grounds 25 to 28.
+// Whether a transition gives ground 25, 26 or 28.
 fn is_faulty(sheet: Sheet, ground: u8, t: Transition) -> bool
-    requires { ⌜ sheet .moves ≤ 64 ⌝ }
     ensures { λ r. ⌜ r ≡ faultOf ground sheet t ⌝ }
 {
     match ground {
         25 => is_misplaced(sheet, t),
         26 => t.reads == 0,
-        27 => is_read_elsewhere(sheet, t),
         _ => is_undoing(sheet, t),
     }
 }
@@ -101,16 +102,17 @@ fn is_misplaced(sheet: Sheet, t: Transition) -> bool
     1 < t.vote
 }
 
-// Ground 27 for a transition: another site reads one of its messages too.
-fn is_read_elsewhere(sheet: Sheet, t: Transition) -> bool
-    requires { ⌜ sheet .moves ≤ 64 ⌝ }
-    ensures { λ r. ⌜ r ≡ readElsewhere sheet t ⌝ }
+// Ground 27: a message read by two sites. What each site's others read is put together first, so that no transition is held against each other one.
+fn is_contended(sheet: Sheet) -> bool
+    requires { ⌜ (sheet .moves ≤ 64) × Sited sheet ⌝ }
+    ensures { λ r. ⌜ r ≡ contended sheet ⌝ }
 {
+    let others = reads_of_others(sheet);
     let moves = sheet.moves;
     let mut i = 0;
     while i < moves {
-        let u = sheet.transitions[i];
-        if do_share(t, u) {
+        let t = sheet.transitions[i];
+        if is_among(others, t) {
             return true;
         }
         i += 1;
@@ -118,14 +120,51 @@ fn is_read_elsewhere(sheet: Sheet, t: Transition) -> bool
     false
 }
 
-// Whether transitions of two sites read one message.
-fn do_share(t: Transition, u: Transition) -> bool
-    ensures { λ r. ⌜ r ≡ shares t u ⌝ }
+// For each of four sites, the messages that the others read.
+fn reads_of_others(sheet: Sheet) -> [u32; 4]
+    requires { ⌜ sheet .moves ≤ 64 ⌝ }
+    ensures { λ r. ⌜ r ≡ table (readBeside sheet) 4 ⌝ }
 {
-    if u.site == t.site {
-        return false;
+    let a = reads_beside(sheet, 1);
+    let b = reads_beside(sheet, 2);
+    let c = reads_beside(sheet, 3);
+    let d = reads_beside(sheet, 4);
+    [a, b, c, d]
+}
+
+// The messages that sites other than this one read.
+fn reads_beside(sheet: Sheet, site: u8) -> u32
+    requires { ⌜ sheet .moves ≤ 64 ⌝ }
+    ensures { λ r. ⌜ r ≡ readWithout site sheet (sheet .moves) ⌝ }
+{
+    let moves = sheet.moves;
+    let mut reads: u32 = 0;
+    let mut i = 0;
+    while i < moves {
+        let t = sheet.transitions[i];
+        reads = with_reads(reads, t, site);
+        i += 1;
     }
-    u.reads & t.reads != 0
+    reads
+}
+
+// What a transition reads put to what others read, unless it is of this site.
+fn with_reads(reads: u32, t: Transition, site: u8) -> u32
+    ensures { λ r. ⌜ r ≡ withReads site t reads ⌝ }
+{
+    if t.site == site {
+        return reads;
+    }
+    reads | t.reads
+}
+
+// Whether a transition reads a message that the others of its site read too.
+fn is_among(others: [u32; 4], t: Transition) -> bool
+    requires { ⌜ (1 ≤ t .site) × (t .site ≤ 4) ⌝ }
+    ensures { λ r. ⌜ r ≡ not (eqb (bitAnd (getD others (t .site - 1) 0) (t .reads)) 0) ⌝ }
+{
+    let at = place_of(t.site);
+    others[at] & t.reads != 0
 }
 
 // Ground 28 for a transition: abort to non-abort, or commit to non-commit.

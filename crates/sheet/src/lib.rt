@@ -2,7 +2,7 @@
 // The reader knows nothing of what a sheet is judged by. The grounds from 25 on are stated over the parts alone.
 ghost use mathlib.Core.Path.{_≡_};
 ghost use Rattle.sheet.specs.Record.{noTransition, noSheet};
-ghost use Rattle.sheet.specs.Grounds.{readOf};
+ghost use Rattle.sheet.specs.Grounds.{groundOf, sheetOf};
 ghost use Rattle.sheet.specs.Fine.{Fine};
 
 mod record; // record.rt: the parts of a record
@@ -31,43 +31,42 @@ pub struct Sheet {
     pub transitions: [Transition; 64],
 }
 
-// The reader's answer: ground 21 to 29 and the empty sheet, or 0 and the parts.
-pub struct Sheeted {
-    pub refusal: u8,
-    pub sheet: Sheet,
-}
-
-// The sheet of a record, or the first ground against it.
-pub fn read(bytes: &[u8]) -> Sheeted
-    ensures { λ r. ⌜ r ≡ readOf (now (bytes .entry)) ⌝ }
-    ensures { λ r. ⌜ (r .refusal ≡ 0 → Fine (r .sheet)) ⌝ }
+// The first ground against a record, 21 to 29, or 0.
+pub fn ground(bytes: &[u8]) -> u8
+    ensures { λ r. ⌜ r ≡ groundOf (now (bytes .entry)) ⌝ }
 {
     let frame = frame::frame_ground(bytes);
     if frame != 0 {
-        return refused(frame);
+        return frame;
     }
     let sheet = record::parts(bytes);
-    let ground = grounds::parts_ground(sheet);
-    if ground != 0 {
-        return refused(ground);
-    }
-    Sheeted { refusal: 0, sheet }
+    grounds::parts_ground(sheet)
 }
 
-// A refused answer: the ground, and no sheet.
-fn refused(refusal: u8) -> Sheeted
-    ensures { λ r. ⌜ (r .refusal ≡ refusal) × (r .sheet ≡ noSheet) ⌝ }
+// The parts of a record, none where a ground from 21 to 24 stands against it. Where no ground does, they are fine.
+pub fn parts(bytes: &[u8]) -> Sheet
+    ensures { λ r. ⌜ r ≡ sheetOf (now (bytes .entry)) ⌝ }
+    ensures { λ r. ⌜ (groundOf (now (bytes .entry)) ≡ 0 → Fine r) ⌝ }
+{
+    if frame::frame_ground(bytes) != 0 {
+        return no_sheet();
+    }
+    record::parts(bytes)
+}
+
+// No sheet: all parts zero.
+fn no_sheet() -> Sheet
+    ensures { λ r. ⌜ r ≡ noSheet ⌝ }
 {
     let none = no_transition();
-    let sheet = Sheet {
+    Sheet {
         sites: 0,
         counts: [0; 4],
         marks: [0; 32],
         first: 0,
         moves: 0,
         transitions: [none; 64],
-    };
-    Sheeted { refusal, sheet }
+    }
 }
 
 // No transition: all fields zero.

@@ -1,9 +1,10 @@
-// The parts of a record, read where 01's paragraph "Record" puts them. A byte past the end counts as 0, so that every function is for every slice.
+// The parts of a record, read where 01's paragraph "Record" puts them. Until the frame is tested a byte past the end counts as 0.
 ghost use mathlib.Core.Path.{_≡_};
 ghost use Prim.Native.Nat.{_+_, _*_, _^_, _≤_, _<_};
-ghost use lib.ListN.{getD};
+ghost use lib.ListN.{length, getD};
 ghost use Rattle.sheet.specs.Index.{table};
-ghost use Rattle.sheet.specs.Record.{byte, wordAt, sitesOf, countOf, countsOf, statesBefore, movesAt, movesOf, markOf, transitionFrom, transitionIn, partsOf};
+ghost use Rattle.sheet.specs.Record.{byte, wordAt, sitesOf, countOf, countsOf, statesBefore, movesAt, markOf, transitionFrom, transitionIn, partsOf};
+ghost use Rattle.sheet.specs.Grounds.{frameGround};
 use super::Sheet;
 use super::Transition;
 
@@ -17,19 +18,19 @@ pub(crate) fn byte_at(bytes: &[u8], at: usize) -> u8
     0
 }
 
-// Two bytes, big-endian.
+// Two bytes that are there, big-endian.
 pub(crate) fn pair_at(bytes: &[u8], at: usize) -> u32
-    requires { ⌜ at < 2 ^ 32 ⌝ }
+    requires { ⌜ (at < 2 ^ 32) × (at + 2 ≤ length (now bytes)) ⌝ }
     ensures { λ r. ⌜ (r ≡ byte (now (bytes .entry)) at * 256 + byte (now (bytes .entry)) (at + 1)) × (r < 2 ^ 16) ⌝ }
 {
-    let high = byte_at(bytes, at) as u32;
-    let low = byte_at(bytes, at + 1) as u32;
+    let high = bytes[at] as u32;
+    let low = bytes[at + 1] as u32;
     high * 256 + low
 }
 
-// Four bytes, big-endian.
+// Four bytes that are there, big-endian.
 fn word_at(bytes: &[u8], at: usize) -> u32
-    requires { ⌜ at < 2 ^ 20 ⌝ }
+    requires { ⌜ (at < 2 ^ 20) × (at + 4 ≤ length (now bytes)) ⌝ }
     ensures { λ r. ⌜ r ≡ wordAt (now (bytes .entry)) at ⌝ }
 {
     let high = pair_at(bytes, at);
@@ -120,16 +121,16 @@ fn marks_of(bytes: &[u8], sites: u8, counts: [u8; 4]) -> [u8; 32]
     marks
 }
 
-// The transition whose twelve bytes start at a place.
+// The transition whose twelve bytes start at a place and are all there.
 fn transition_from(bytes: &[u8], at: usize) -> Transition
-    requires { ⌜ at < 2 ^ 16 ⌝ }
+    requires { ⌜ (at < 2 ^ 16) × (at + 12 ≤ length (now bytes)) ⌝ }
     ensures { λ r. ⌜ r ≡ transitionFrom (now (bytes .entry)) at ⌝ }
 {
     Transition {
-        site: byte_at(bytes, at),
-        from: byte_at(bytes, at + 1),
-        to: byte_at(bytes, at + 2),
-        vote: byte_at(bytes, at + 3),
+        site: bytes[at],
+        from: bytes[at + 1],
+        to: bytes[at + 2],
+        vote: bytes[at + 3],
         reads: word_at(bytes, at + 4),
         writes: word_at(bytes, at + 8),
     }
@@ -137,7 +138,7 @@ fn transition_from(bytes: &[u8], at: usize) -> Transition
 
 // The transitions at the 64 places: `moves` of them, the first at a place of the record, and then none.
 fn transitions_of(bytes: &[u8], start: usize, moves: usize) -> [Transition; 64]
-    requires { ⌜ (start < 2 ^ 11) × (moves ≤ 64) ⌝ }
+    requires { ⌜ (start < 2 ^ 11) × (moves ≤ 64) × (start + 12 * moves ≤ length (now bytes)) ⌝ }
     ensures { λ r. ⌜ r ≡ table (transitionIn (now (bytes .entry)) start moves) 64 ⌝ }
 {
     let none = super::no_transition();
@@ -150,9 +151,9 @@ fn transitions_of(bytes: &[u8], start: usize, moves: usize) -> [Transition; 64]
     transitions
 }
 
-// The parts of a record with at most 64 transitions.
+// The parts of a record against which no ground from 21 to 24 stands.
 pub(crate) fn parts(bytes: &[u8]) -> Sheet
-    requires { ⌜ movesOf (now bytes) (sitesOf (now bytes)) (countsOf (now bytes)) ≤ 64 ⌝ }
+    requires { ⌜ frameGround (now bytes) ≡ 0 ⌝ }
     ensures { λ r. ⌜ r ≡ partsOf (now (bytes .entry)) ⌝ }
 {
     let sites = byte_at(bytes, 3);

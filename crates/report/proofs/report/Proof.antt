@@ -1,7 +1,9 @@
 -- `report` meets its contract: the longest text fits, and so does this one.
 -- Assumes nothing.
-use mathlib.Core.Path.{refl}
+use mathlib.Core.Path.{refl, subst⁻¹}
 use native.Mathlib.Omega.{arith}
+use Rattle.sheet.specs.declared.Sheet.{Sheet}
+use Rattle.judge.specs.Facts.{Says}
 use Rattle.report.specs.Report.Reported.{cramped}
 use Rattle.report.proofs.Bounds.{refused-size, accepted-size}
 use Rattle.report.proofs.Telling.{accepted, tells-refused, tells-accepted}
@@ -27,13 +29,13 @@ same-length-2 c = search needs
 returns-2 : tie.Need-returns-2
 returns-2 c = tells-refused _ _ _ _ _ _ _ (omega arith) (c .before .before .before .before .before .before .before .judge .ensures) (c .before .before .before .before .if2 .taken) (c .before .before .put-refused .ensures)
 
-read-requires : tie.Need-read-requires
-read-requires c κs = search needs
+parts-requires : tie.Need-parts-requires
+parts-requires c κs = search needs
 
 put-accepted-requires : tie.Need-put-accepted-requires
 put-accepted-requires c κs =
-    let a = accepted _ _ _ _ _ (c .before .before .read .ensures .0) (c .before .before .before .before .before .before .judge .ensures) (c .before .before .before .if2 .left) in
-    omega (arith, accepted-size _ _ (c .before .before .read .ensures .1 (a .read)) (a .few) (a .says))
+    let a = accepted _ _ _ _ (c .before .before .before .before .before .judge .ensures) (c .before .before .if2 .left) in
+    omega (arith, accepted-size _ _ (c .before .parts .ensures .1 (a .read)) (a .few) (subst⁻¹ (λ (s : Sheet). Says s (c .before .before .before .before .before .judge .result)) (c .before .parts .ensures .0) (a .says)))
 
 same-length-3 : tie.Need-same-length-3
 same-length-3 c = search needs
@@ -42,7 +44,7 @@ same-length-4 : tie.Need-same-length-4
 same-length-4 c = search needs
 
 returns-3 : tie.Need-returns-3
-returns-3 c = tells-accepted _ _ _ _ _ _ _ (omega arith) (c .before .before .before .before .before .before .before .before .before .judge .ensures) _ (c .before .before .before .before .before .read .ensures .0) (c .before .before .before .before .before .before .if2 .left) (c .before .before .put-accepted .ensures)
+returns-3 c = tells-accepted _ _ _ _ _ _ _ (omega arith) (c .before .before .before .before .before .before .before .before .judge .ensures) _ (c .before .before .before .before .parts .ensures .0) (c .before .before .before .before .before .if2 .left) (c .before .before .put-accepted .ensures)
 
 pub report-spec : {M : Type 1} → statement M
 report-spec =
@@ -54,7 +56,7 @@ report-spec =
     same-length
     same-length-2
     returns-2
-    read-requires
+    parts-requires
     put-accepted-requires
     same-length-3
     same-length-4

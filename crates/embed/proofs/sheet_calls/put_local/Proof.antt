@@ -7,6 +7,9 @@ use borrow.Author.Needs.{needs}
 use Rattle.embed.proofs.sheet_calls.put_local.Statement.{statement}
 use Rattle.embed.proofs.sheet_calls.put_local.Tie as tie
 
+cast-set : tie.Need-cast-set
+cast-set c = search needs
+
 flags-requires : tie.Need-flags-requires
 flags-requires c κs = search needs
 
@@ -33,12 +36,13 @@ same-length c = search needs
 
 returns : tie.Need-returns
 unfolding localBytes
-returns c = c .before .before .put .ensures .1 ∙ simp (c .before .before .before .before .before .before .before .before .before .flags .ensures, c .before .before .before .before .before .before .before .before .low-byte .ensures, c .before .before .before .before .before .before .before .low-byte2 .ensures, c .before .before .before .before .before .before .low-byte3 .ensures, c .before .before .before .before .before .low-byte4 .ensures) (put-front (localBytes (c .before .before .before .before .before .before .before .before .before .before .before .args .local)) (c .before .before .before .before .before .before .before .before .before .before .before .args .part .now) (c .before .before .before .before .before .before .before .before .before .before .before .pre))
+returns c = c .before .before .put .ensures .1 ∙ simp (c .before .before .before .before .before .before .before .before .before .flags .ensures, c .before .before .before .before .before .before .before .before .low-byte .ensures, c .before .before .before .before .before .before .before .low-byte2 .ensures, c .before .before .before .before .before .before .low-byte3 .ensures, c .before .before .before .before .before .low-byte4 .ensures) (put-front (localBytes (c .before .before .before .before .before .before .before .before .before .before .before .before .args .local)) (c .before .before .before .before .before .before .before .before .before .before .before .before .args .part .now) (c .before .before .before .before .before .before .before .before .before .before .before .before .pre))
 
 pub put-local-spec : {M : Type 1} → statement M
 put-local-spec =
     tie.close
     (tie.spec
+    cast-set
     flags-requires
     low-byte-requires
     low-byte-requires-2

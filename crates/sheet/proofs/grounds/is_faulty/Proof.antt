@@ -10,9 +10,6 @@ use Rattle.sheet.proofs.grounds.is_faulty.Tie as tie
 is-misplaced-requires : tie.Need-is-misplaced-requires
 is-misplaced-requires c κs = search needs
 
-is-read-elsewhere-requires : tie.Need-is-read-elsewhere-requires
-is-read-elsewhere-requires c κs = search needs
-
 is-undoing-requires : tie.Need-is-undoing-requires
 is-undoing-requires c κs = search needs
 
@@ -26,20 +23,8 @@ returns-2 c = rw (c .before .match .keys2)
 
 returns-3 : tie.Need-returns-3
 unfolding faultOf
-returns-3 c = rw (c .before .match .keys3) (c .is-read-elsewhere .ensures)
-
-returns-4 : tie.Need-returns-4
-unfolding faultOf
-returns-4 c = simp (ne-eqb _ _ (c .before .match .rest .0 .0 .1), ne-eqb _ _ (c .before .match .rest .0 .1), ne-eqb _ _ (c .before .match .rest .1)) (c .is-undoing .ensures)
+returns-3 c = simp (ne-eqb _ _ (c .before .match .rest .0 .1), ne-eqb _ _ (c .before .match .rest .1)) (c .is-undoing .ensures)
 
 pub is-faulty-spec : {M : Type 1} → statement M
 is-faulty-spec =
-    tie.close
-    (tie.spec
-    is-misplaced-requires
-    is-read-elsewhere-requires
-    is-undoing-requires
-    returns
-    returns-2
-    returns-3
-    returns-4)
+    tie.close (tie.spec is-misplaced-requires is-undoing-requires returns returns-2 returns-3)

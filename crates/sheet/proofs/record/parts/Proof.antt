@@ -1,9 +1,11 @@
 -- `parts` meets its contract: each part is what is read at its place.
 -- Assumes nothing.
 use Prim.Native.Nat.{_-_}
-use mathlib.Core.Path.{_≡_}
+use mathlib.Core.Path.{_≡_, ap, _∙_}
 use native.Mathlib.Omega.{arith}
-use Rattle.sheet.specs.Record.{sitesOf, countsOf, firstAt, partsBy}
+use Rattle.sheet.specs.Record.{byte, sitesOf, countsOf, movesOf, firstAt, partsBy}
+use Rattle.sheet.specs.GroundLaws.{framed}
+use Rattle.sheet.specs.FineLaws.{moves-few, whole}
 use borrow.Author.Needs.{needs}
 use Rattle.sheet.proofs.record.parts.Statement.{statement}
 use Rattle.sheet.proofs.record.parts.Tie as tie
@@ -21,7 +23,9 @@ sub-word-at : tie.Need-sub-word-at
 sub-word-at c = search needs
 
 word-at-requires : tie.Need-word-at-requires
-word-at-requires c κs = search needs
+word-at-requires c κs =
+    let l = c .before .before .before .before .args .bytes .now in
+    omega (arith, c .moves-at .ensures .0, c .moves-at .ensures .1, c .moves-at .ensures .2, whole l (framed l (c .before .before .before .before .pre)))
 
 byte-at-requires-2 : tie.Need-byte-at-requires-2
 byte-at-requires-2 c κs = search needs
@@ -36,7 +40,11 @@ add-transitions-of : tie.Need-add-transitions-of
 add-transitions-of c = search needs
 
 transitions-of-requires : tie.Need-transitions-of-requires
-transitions-of-requires c κs = (omega (arith, c .before .before .before .moves-at .ensures .2), rw (c .before .byte-at2 .ensures, c .before .before .before .moves-at .ensures .0) (c .before .before .before .before .before .before .before .pre))
+transitions-of-requires c κs =
+    let l = c .before .before .before .before .before .before .before .args .bytes .now in
+    let f = framed l (c .before .before .before .before .before .before .before .pre) in
+    let moves : c .before .byte-at2 .result ≡ movesOf l (sitesOf l) (countsOf l) = c .before .byte-at2 .ensures ∙ ap (byte l) (c .before .before .before .moves-at .ensures .0) in
+    (omega (arith, c .before .before .before .moves-at .ensures .2), omega (arith, moves, moves-few l f), omega (arith, moves, c .before .before .before .moves-at .ensures .0, whole l f))
 
 returns : tie.Need-returns
 unfolding partsBy
