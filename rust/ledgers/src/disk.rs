@@ -107,7 +107,7 @@ impl Disk {
     }
 
     /// Refuses a ledger whose folder is there.
-    pub fn is_new(&self) -> io::Result<()> {
+    pub fn must_be_new(&self) -> io::Result<()> {
         let free = |exists| match exists {
             true => Err(io::Error::other("this ledger has been opened already")),
             false => Ok(()),

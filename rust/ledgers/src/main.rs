@@ -57,7 +57,7 @@ fn open(register: &Path, n: u8) -> Result<(), Trouble> {
     let date = "2031-12-31".to_string();
     let entry = Entry { date, debit: 1250, credit: 1250, standing: Standing::Open };
     Site::fresh(n, 1)?;
-    (1..=n).try_for_each(|number| Disk::new(register, number).is_new())?;
+    (1..=n).try_for_each(|number| Disk::new(register, number).must_be_new())?;
     (1..=n).try_for_each(|number| Disk::open(register, number, &entry).map(drop))?;
     Ok(())
 }
