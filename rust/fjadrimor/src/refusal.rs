@@ -41,19 +41,19 @@ grounds! {
     WrongVersion = 12, "the record's version is not 1";
     UnknownK = 13, "the kind of event is unknown";
     WrongField = 14, "a field is outside its range";
-    NoRoom = 15, "fewer than 9 bytes of room are left";
+    NoRoom = 15, "there is too little room for what is to be written";
     FewWords = 20, "fewer than 4,096 words are lent";
     SheetSize = 21, "the sheet's length is missing, 0, or not the length of what follows";
     SheetVersion = 22, "the sheet's version is not 1";
-    SheetCounts = 23, "the number of sites or of a site's states is missing or outside its range";
+    SheetCounts = 23, "the number of sites is not 2 to 4, or a site's number of states is not 1 to 8";
     SheetLength = 24, "the sheet has more or fewer bytes than its counts give, or over 64 transitions";
     SheetRange = 25, "a mark, site, state or vote is outside its range";
     ReadsNothing = 26, "a transition reads nothing";
     ReadTwice = 27, "a message is read by two sites";
-    NotFinal = 28, "a transition leads out of abort or out of commit";
-    Cycle = 29, "a site's transitions go round in a cycle";
+    NotFinal = 28, "a transition leads from an abort or commit state to a state of another mark";
+    Cycle = 29, "a site can come back to a state that it has left";
     ManyStates = 30, "more than 4,096 global states are reachable";
-    Clash = 31, "a transition can write a message that is still outstanding";
+    Clash = 31, "a message can be written while it is still outstanding";
 }
 
 impl Refusal {

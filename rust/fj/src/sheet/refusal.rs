@@ -1,6 +1,7 @@
 //! A refusal in words: 01's number, its sentence and, where it can be pointed at, the place.
 
 use super::model::{Mark, Sheet, Transition};
+use crate::grounds::sentence;
 use std::collections::BTreeSet;
 
 /// `refused 26: a transition reads nothing (line 12: 1: q -> w)`
@@ -8,26 +9,6 @@ pub fn text(ground: u8, sheet: Option<&Sheet>) -> String {
     let place = sheet.and_then(|sheet| place(ground, sheet));
     let place = place.map_or(String::new(), |place| format!(" ({place})"));
     format!("refused {ground}: {}{place}", sentence(ground))
-}
-
-/// The sentence of a ground.
-fn sentence(ground: u8) -> &'static str {
-    match ground {
-        21 => {
-            "fewer than 2 bytes, or not as many as the length at the front says, or a length of 0"
-        }
-        22 => "the version is not 1",
-        23 => "the number of sites is not 2 to 4, or a site's number of states is not 1 to 8",
-        24 => "there are more than 64 transitions, or the length is not what the counts give",
-        25 => "a mark, site, state or vote is outside its range",
-        26 => "a transition reads nothing",
-        27 => "a message is read by two sites",
-        28 => "a transition leads from an abort or commit state to a state of another mark",
-        29 => "a site can come back to a state that it has left",
-        30 => "more than 4,096 global states are reachable",
-        31 => "a message can be written while it is still outstanding",
-        _ => "the library does not take this sheet",
-    }
 }
 
 /// Where in the sheet a ground shows.
