@@ -1,6 +1,6 @@
 -- Pieces put one after another: what is done, what is left, and that it fits.
 -- Assumes nothing.
-use Prim.Native.Nat.{ℕ, zero, suc, _+_, _-_, _≤_, _<_}
+use Prim.Native.Nat.{ℕ, zero, suc, _+_, _-_, _/_, _%_, _≤_, _<_}
 use mathlib.Core.Bool.{Bool, true, false}
 use mathlib.Core.List.{List, [], _∷_, _++_, append-assoc, append-nil}
 use mathlib.Core.Path.{_≡_, refl, sym, ap, subst, subst⁻¹, _∙_}
@@ -14,6 +14,7 @@ use native.Mathlib.Decide.{decLt}
 use Rattle.text.specs.Text.{Put, reached, spliced}
 use Rattle.text.specs.TextLaws.{put-fits, put-then, put-length}
 use Rattle.text.specs.Said.{said}
+use Rattle.text.specs.DecimalLaws.{decimal-one}
 use Rattle.report.specs.Report.{joined, upTo, nameOf, memberOf}
 
 -- nothing is put
@@ -63,6 +64,14 @@ pub put-word : (text : List ℕ) (at : ℕ) {part other last : List ℕ} {r : �
     → (r ≡ reached text at part) × (last ≡ spliced text at part) → Put text at other last r
 put-word text at {part} {other} {last} {r} e h p =
     subst (λ (l : List ℕ). Put text at l last r) e (put-fits text at part (subst⁻¹ (λ (l : List ℕ). at + length l ≤ length text) e h) p)
+
+-- a name is a digit, a dot and a digit
+pub name-is : (p : ℕ) → p < 32 → (49 + p / 8) ∷ 46 ∷ (48 + p % 8) ∷ [] ≡ nameOf p
+unfolding nameOf joined
+name-is p h =
+    let first : 49 + p / 8 ≡ 48 + (p / 8 + 1) = omega arith in
+    ap (λ (d : ℕ). d ∷ 46 ∷ (48 + p % 8) ∷ []) first
+    ∙ sym (simp (decimal-one (p / 8 + 1) (omega arith), decimal-one (p % 8) (omega arith)))
 
 -- ---- a piece for each number below k
 

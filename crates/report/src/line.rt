@@ -11,14 +11,13 @@ use judge::Local;
 use judge::Verdict;
 use sheet::Sheet;
 
-// site.state
+// site.state, a digit each
 fn put_name(out: &mut [u8], at: usize, p: usize) -> usize
     requires { ⌜ (p < 32) × (at + length (nameOf p) ≤ length (now out)) ⌝ }
     ensures { λ r. ⌜ Put (now (out .entry)) at (nameOf p) (now (out .exit)) r ⌝ }
 {
-    let site = text::put_decimal(out, at, p / 8 + 1);
-    let dot = text::put(out, site, b".");
-    text::put_decimal(out, dot, p % 8)
+    let name = [b'1' + (p / 8) as u8, b'.', b'0' + (p % 8) as u8];
+    text::put(out, at, &name)
 }
 
 fn put_mark(out: &mut [u8], at: usize, mark: u8) -> usize
