@@ -1,3 +1,4 @@
 pub mod Arrows
 pub mod Faults
+pub mod Marks
 pub mod Readers

@@ -136,7 +136,7 @@ move-none l k h = go (decLt k 64)
     go (yes b) = table-at f 64 k noTransition b ∙ simp (le-ltb _ _ h)
     go (no b) = List·getD-eq-default (table f 64) noTransition {n = k} (omega (arith, length-table f 64))
 
--- a record that passes grounds 21 to 24 is as long as its counts say, and has at most 64 transitions and two to four sites
+-- a record that passes grounds 21 to 24 is as long as its counts say, and has at most 64 transitions, and two to four sites of one to eight states
 module _ (l : List ℕ) (f : Framed l) where
   measured : (leb (length l) (movesAt (sitesOf l) (countsOf l)) || ltb 64 (movesOf l (sitesOf l) (countsOf l)) ≡ false) × (lengthOf l ≡ lengthFor (sitesOf l) (countsOf l) (movesOf l (sitesOf l) (countsOf l)))
   unfolding mismeasuredBy
@@ -160,22 +160,12 @@ module _ (l : List ℕ) (f : Framed l) where
   pub sites-few : sitesOf l ≤ 4
   sites-few = sites-among .high
 
--- without a fault of ground 25 each transition is of one of four sites
-pub sited : (s : Sheet) → s .sites ≤ 4 → someMove misplaced s ≡ false → Sited s
-sited s four e =
-    record {
-      least = λ i h. placed s (moveOf s i) (move-not misplaced s i e h) .least;
-      most = λ i h. omega (arith, placed s (moveOf s i) (move-not misplaced s i e h) .most);
-    }
-
--- grounds 21 to 24 about the parts
-module _ (l : List ℕ) (p : Passes l) where
   count-there : (i : ℕ) → i < sitesOf l → Among 1 8 (getD (countsOf l) i 0)
   unfolding miscounted miscountedAt countsOf countOf
   count-there i h =
-      let four : sitesOf l ≤ 4 = sites-few l (p .frame) in
+      let four : sitesOf l ≤ 4 = sites-few in
       let is : getD (countsOf l) i 0 ≡ byte l (4 + i) = table-at (countOf l) 4 i 0 (omega arith) ∙ simp (lt-ltb _ _ h) in
-      let a = among 1 8 (byte l (4 + i)) (any-at (miscountedAt l) (sitesOf l) i (or-neither (outside 2 4 (sitesOf l)) (any (miscountedAt l) (sitesOf l)) (p .frame .counted) .1) h) in
+      let a = among 1 8 (byte l (4 + i)) (any-at (miscountedAt l) (sitesOf l) i (or-neither (outside 2 4 (sitesOf l)) (any (miscountedAt l) (sitesOf l)) (f .counted) .1) h) in
       record { low = omega (arith, a .low); high = omega (arith, a .high) }
 
   count-absent : (i : ℕ) → sitesOf l ≤ i → getD (countsOf l) i 0 ≡ 0
@@ -186,13 +176,23 @@ module _ (l : List ℕ) (p : Passes l) where
       go (yes b) = table-at (countOf l) 4 i 0 b ∙ simp (le-ltb _ _ h)
       go (no b) = List·getD-eq-default (table (countOf l) 4) 0 {n = i} (omega (arith, length-table (countOf l) 4))
 
-  count-few : (i : ℕ) → getD (countsOf l) i 0 ≤ 8
+  pub count-few : (i : ℕ) → getD (countsOf l) i 0 ≤ 8
   count-few i = go (decLt i (sitesOf l))
     where
       go : Dec (i < sitesOf l) → getD (countsOf l) i 0 ≤ 8
       go (yes b) = count-there i b .high
       go (no b) = omega (arith, count-absent i (omega arith))
 
+-- without a fault of ground 25 each transition is of one of four sites
+pub sited : (s : Sheet) → s .sites ≤ 4 → someMove misplaced s ≡ false → Sited s
+sited s four e =
+    record {
+      least = λ i h. placed s (moveOf s i) (move-not misplaced s i e h) .least;
+      most = λ i h. omega (arith, placed s (moveOf s i) (move-not misplaced s i e h) .most);
+    }
+
+-- grounds 21 to 24 about the parts
+module _ (l : List ℕ) (p : Passes l) where
   mark-small : (k : ℕ) → getD (partsOf l .marks) k 0 < 3
   mark-small k = go (decLt k 32)
     where
@@ -220,7 +220,7 @@ module _ (l : List ℕ) (p : Passes l) where
       let from : t .from ≡ q = eqb-true _ _ (b .1) in
       let to : t .to ≡ r = eqb-true _ _ (a .1) in
       let m = move-placed (partsOf l) (p .parts) (f .place) (f .below) in
-      let few : statesOf (partsOf l) (t .site) ≤ 8 = count-few (t .site - 1) in
+      let few : statesOf (partsOf l) (t .site) ≤ 8 = count-few l (p .frame) (t .site - 1) in
       let four : sitesOf l ≤ 4 = sites-few l (p .frame) in
       (omega (arith, m .least), omega (arith, m .most), omega (arith, m .from), omega (arith, m .to))
 
@@ -259,9 +259,9 @@ module _ (l : List ℕ) (small : (k : ℕ) → byte l k < 256) (p : Passes l) wh
       record {
         least = sites-among l (p .frame) .low;
         most = sites-among l (p .frame) .high;
-        some = λ i h. count-there l p i h .low;
-        many = count-few l p;
-        absent = count-absent l p;
+        some = λ i h. count-there l (p .frame) i h .low;
+        many = count-few l (p .frame);
+        absent = count-absent l (p .frame);
         marks = mark-small l p;
         unmarked = mark-none l;
         first = word-small l small _;

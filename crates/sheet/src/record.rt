@@ -1,6 +1,7 @@
 // The parts of a record, read where 01's paragraph "Record" puts them. Until the frame is tested a byte past the end counts as 0.
 ghost use mathlib.Core.Path.{_≡_};
-ghost use Prim.Native.Nat.{_+_, _*_, _^_, _≤_, _<_};
+ghost use mathlib.Core.Bool.{cond};
+ghost use Prim.Native.Nat.{ℕ, _+_, _*_, _^_, _≤_, _<_};
 ghost use lib.ListN.{length, getD};
 ghost use Rattle.sheet.specs.Index.{table};
 ghost use Rattle.sheet.specs.Record.{byte, wordAt, sitesOf, countOf, countsOf, statesBefore, movesAt, markOf, transitionFrom, transitionIn, partsOf};
@@ -70,14 +71,13 @@ pub(crate) fn count_in(counts: [u8; 4], i: usize) -> u8
     0
 }
 
-// The states of the sites before place i.
-fn states_before(counts: [u8; 4], i: usize) -> usize
-    requires { ⌜ i ≤ 4 ⌝ }
-    ensures { λ r. ⌜ (r ≡ statesBefore counts i) × (r ≤ 1020) ⌝ }
+// The states of all sites.
+fn states_of(counts: [u8; 4]) -> usize
+    ensures { λ r. ⌜ (r ≡ statesBefore counts 4) × (r ≤ 1020) ⌝ }
 {
     let mut states: usize = 0;
     let mut j = 0;
-    while j < i {
+    while j < 4 {
         states += counts[j] as usize;
         j += 1;
     }
@@ -90,35 +90,46 @@ pub(crate) fn moves_at(bytes: &[u8]) -> usize
 {
     let sites = byte_at(bytes, 3) as usize;
     let counts = counts_of(bytes);
-    4 + sites + states_before(counts, 4) + 4
+    4 + sites + states_of(counts) + 4
 }
 
-// The mark at place k, 0 where there is no such state.
-fn mark_of(bytes: &[u8], sites: u8, counts: [u8; 4], k: usize) -> u8
-    requires { ⌜ k < 32 ⌝ }
-    ensures { λ r. ⌜ r ≡ markOf (now (bytes .entry)) sites counts k ⌝ }
+// The marks at the 32 places. In the record they follow each other, site by site.
+fn marks_of(bytes: &[u8], sites: u8, counts: [u8; 4]) -> [u8; 32]
+    requires { ⌜ ((i : ℕ) → getD counts i 0 ≤ 8) ⌝ }
+    ensures { λ r. ⌜ r ≡ table (markOf (now (bytes .entry)) sites counts) 32 ⌝ }
 {
-    let i = k / 8;
-    let state = k % 8;
-    let count = counts[i] as usize;
-    let before = states_before(counts, i);
-    if state < count {
-        return byte_at(bytes, 4 + sites as usize + before + state);
+    let mut marks = [0u8; 32];
+    let mut at = 4 + sites as usize;
+    let mut k = 0;
+    while k < 32 {
+        let i = k / 8;
+        let there = k % 8 < counts[i] as usize;
+        marks[k] = mark_at(bytes, at, there);
+        at = after(at, there);
+        k += 1;
+    }
+    marks
+}
+
+// The mark at a place of the record, 0 for a state that is not there.
+fn mark_at(bytes: &[u8], at: usize, there: bool) -> u8
+    ensures { λ r. ⌜ r ≡ cond there (byte (now (bytes .entry)) at) 0 ⌝ }
+{
+    if there {
+        return byte_at(bytes, at);
     }
     0
 }
 
-// The marks at the 32 places.
-fn marks_of(bytes: &[u8], sites: u8, counts: [u8; 4]) -> [u8; 32]
-    ensures { λ r. ⌜ r ≡ table (markOf (now (bytes .entry)) sites counts) 32 ⌝ }
+// The next place, after a state that is there.
+fn after(at: usize, there: bool) -> usize
+    requires { ⌜ at < 2 ^ 32 ⌝ }
+    ensures { λ r. ⌜ r ≡ at + cond there 1 0 ⌝ }
 {
-    let mut marks = [0u8; 32];
-    let mut k = 0;
-    while k < 32 {
-        marks[k] = mark_of(bytes, sites, counts, k);
-        k += 1;
+    if there {
+        return at + 1;
     }
-    marks
+    at
 }
 
 // The transition whose twelve bytes start at a place and are all there.

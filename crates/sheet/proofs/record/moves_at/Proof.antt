@@ -17,8 +17,8 @@ counts-of-requires c κs = search needs
 add-result : tie.Need-add-result
 add-result c = search needs
 
-states-before-requires : tie.Need-states-before-requires
-states-before-requires c κs = search needs
+states-of-requires : tie.Need-states-of-requires
+states-of-requires c κs = search needs
 
 add-result-2 : tie.Need-add-result-2
 add-result-2 c = search needs
@@ -27,7 +27,7 @@ add-result-3 : tie.Need-add-result-3
 add-result-3 c = search needs
 
 returns : tie.Need-returns
-returns c = (simp (c .states-before .ensures .0, c .before .counts-of .ensures, c .before .before .byte-at .ensures), omega arith, omega (arith, c .states-before .ensures .1))
+returns c = (simp (c .states-of .ensures .0, c .before .counts-of .ensures, c .before .before .byte-at .ensures), omega arith, omega (arith, c .states-of .ensures .1))
 
 pub moves-at-spec : {M : Type 1} → statement M
 moves-at-spec =
@@ -37,7 +37,7 @@ moves-at-spec =
     cast-sites
     counts-of-requires
     add-result
-    states-before-requires
+    states-of-requires
     add-result-2
     add-result-3
     returns)

@@ -5,7 +5,7 @@ use mathlib.Core.Path.{_≡_, ap, _∙_}
 use native.Mathlib.Omega.{arith}
 use Rattle.sheet.specs.Record.{byte, sitesOf, countsOf, movesOf, firstAt, partsBy}
 use Rattle.sheet.specs.GroundLaws.{framed}
-use Rattle.sheet.specs.FineLaws.{moves-few, whole}
+use Rattle.sheet.specs.FineLaws.{moves-few, whole, count-few}
 use borrow.Author.Needs.{needs}
 use Rattle.sheet.proofs.record.parts.Statement.{statement}
 use Rattle.sheet.proofs.record.parts.Tie as tie
@@ -34,7 +34,9 @@ cast-moves : tie.Need-cast-moves
 cast-moves c = search needs
 
 marks-of-requires : tie.Need-marks-of-requires
-marks-of-requires c κs = search needs
+marks-of-requires c κs =
+    let l = c .before .before .before .before .before .before .args .bytes .now in
+    λ i. rw (c .before .before .before .counts-of .ensures) (count-few l (framed l (c .before .before .before .before .before .before .pre)) i)
 
 add-transitions-of : tie.Need-add-transitions-of
 add-transitions-of c = search needs

@@ -1,4 +1,4 @@
--- `states_before` meets its contract: what is added up so far is the states before place j.
+-- `states_of` meets its contract: what is added up so far is the states before place j.
 -- Assumes nothing.
 use Prim.Native.Nat.{_*_, _-_, _≤_}
 use mathlib.Core.Path.{_≡_, ap, _∙_}
@@ -9,14 +9,14 @@ use mir.Val.{Fits}
 use lib.ListN.{getD}
 use Rattle.sheet.specs.IndexLaws.{sum-none, sum-more}
 use Rattle.sheet.specs.Record.{statesBefore}
-use Rattle.sheet.proofs.record.states_before.Statement.{statement}
-use Rattle.sheet.proofs.record.states_before.Tie as tie
+use Rattle.sheet.proofs.record.states_of.Statement.{statement}
+use Rattle.sheet.proofs.record.states_of.Tie as tie
 
 abbrev Inv-loop : tie.InvT-loop
-Inv-loop i counts states₀ j₀ states j = (j ≤ i) × (states ≡ statesBefore counts j) × (states ≤ 255 * j)
+Inv-loop counts states₀ j₀ states j = (j ≤ 4) × (states ≡ statesBefore counts j) × (states ≤ 255 * j)
 
 abbrev μ-loop : tie.MeasureT-loop
-μ-loop i counts states₀ j₀ states j = i - j
+μ-loop counts states₀ j₀ states j = 4 - j
 
 loop-holds : tie.Need-loop-holds Inv-loop μ-loop
 unfolding statesBefore
@@ -47,8 +47,8 @@ loop-again c =
 returns : tie.Need-returns Inv-loop μ-loop
 returns c = (c .before .loop .inv .1 ∙ ap (statesBefore _) (omega arith), omega arith)
 
-pub states-before-spec : {M : Type 1} → statement M
-states-before-spec =
+pub states-of-spec : {M : Type 1} → statement M
+states-of-spec =
     tie.close
     (tie.spec
     Inv-loop
