@@ -82,14 +82,14 @@ fn write(tally: &mut Tally, programs: [Journaling; 2], random: &mut Random, even
     tally.note(&first, &second, || format!("write {:?} at {at} of {length}", [k, s, o, m, v, x]));
 }
 
-/// Rehearses with ample room, and with less room than the text needs.
+/// Rehearses with ample room, and with less than an input of that length is given.
 fn rehearse(tally: &mut Tally, programs: [Journaling; 2], random: &mut Random, journal: &[u8]) {
     let made = |program: Journaling, length: usize| {
         let mut room = pattern(length);
         ((program.rehearse)(journal, &mut room), room)
     };
     let [first, second] = programs.map(|program| made(program, AMPLE));
-    let short = random.below(second.0 as u64) as usize;
+    let short = random.below(38 + 26 * (journal.len() as u64 / 9)) as usize;
     tally.note(&first, &second, || format!("rehearse {journal:?}"));
     let [first, second] = programs.map(|program| made(program, short));
     tally.note(&first, &second, || format!("rehearse {journal:?} in {short}"));

@@ -73,9 +73,9 @@ impl Comparison {
         if self.random.once_in(16) {
             self.judge(case, short);
         }
-        let length = self.report(case, AMPLE);
+        self.report(case, AMPLE);
         if self.random.once_in(8) {
-            let short = self.random.below(length as u64) as usize;
+            let short = self.random.below(3722) as usize;
             self.report(case, short);
         }
     }
@@ -91,7 +91,7 @@ impl Comparison {
         self.tally.note(&first, &second, described);
     }
 
-    fn report(&mut self, case: &Case, room: usize) -> usize {
+    fn report(&mut self, case: &Case, room: usize) {
         let made = |program: Judging| {
             let (mut words, mut text) = (words(case.words), pattern(room));
             let length = (program.report)(&case.bytes, &mut words, &mut text);
@@ -100,6 +100,5 @@ impl Comparison {
         let (first, second) = (made(self.first), made(self.second));
         let described = || format!("report {:?} words {} room {room}", case.bytes, case.words);
         self.tally.note(&first, &second, described);
-        second.0
     }
 }

@@ -110,13 +110,10 @@ fn place((site, state): Local) -> usize {
     8 * (usize::from(site) - 1) + usize::from(state)
 }
 
-/// `fj_sheet_report`: where the room is too small for the text, the words stay as they are too.
+/// `fj_sheet_report`: 0, and nothing is touched, where the room is smaller than the longest report.
 pub fn sheet_report(bytes: &[u8], words: &mut [u64], room: &mut [u8]) -> usize {
-    let mut after = words.to_vec();
-    let text = report(&judge_in(bytes, &mut after));
-    let length = put(&text, room);
-    if length > 0 {
-        words.copy_from_slice(&after);
+    if room.len() < 3722 {
+        return 0;
     }
-    length
+    put(&report(&judge_in(bytes, words)), room)
 }

@@ -248,21 +248,13 @@ fn refused(ground: u8) -> Vec<u8> {
     text
 }
 
-/// The longest report is shorter than this.
-const LONGEST: usize = 4096;
+/// The longest report.
+const LONGEST: usize = 3722;
 
-/// `fj_sheet_report`. The words are only touched where the text has room: they are judged in a
-/// copy where it may have none.
+/// `fj_sheet_report`.
 pub fn sheet_report(bytes: &[u8], words: &mut [u64], room: &mut [u8]) -> usize {
-    let text =
-        |words: &mut [u64]| judge(bytes, words).map_or_else(refused, |judged| report(&judged));
-    if room.len() >= LONGEST {
-        return put(&text(words), room);
+    if room.len() < LONGEST {
+        return 0;
     }
-    let mut copy = words.to_vec();
-    let length = put(&text(&mut copy), room);
-    if length > 0 {
-        words.copy_from_slice(&copy);
-    }
-    length
+    put(&judge(bytes, words).map_or_else(refused, |judged| report(&judged)), room)
 }
