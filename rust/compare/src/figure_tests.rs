@@ -6,19 +6,8 @@ use crate::inputs::sheets::{product, Draft};
 use crate::inputs::Random;
 use second::report::sheets;
 
-const TWO_PHASE: &str = "\
-sheet 2 sites 9 states
-1.0 w y 2.0 n abort
-1.1 w y 2.0,2.1,2.2 n abort
-1.2 a y 2.1,2.2 n abort
-1.3 c y 2.1,2.3 y commit
-2.0 w y 1.0,1.1 n abort
-2.1 w y 1.1,1.2,1.3 n blocked
-2.2 a y 1.1,1.2 n abort
-2.3 c y 1.3 y commit
-verdict blocking at 2.1 condition 1
-tolerance 0
-";
+/// 01's worked report, which the program prints too.
+const TWO_PHASE: &str = include_str!("../../../crates/sheets/stdout");
 
 /// The number of states, the verdict and the tolerance.
 fn summary(draft: &Draft) -> (String, String, String) {

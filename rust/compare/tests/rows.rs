@@ -384,8 +384,7 @@ const CLOSE: [[u8; 6]; 8] = [
 
 #[test]
 fn the_worked_rehearsal() {
-    let text = "sites 2\n1 taken wq\n2 taken ww\n3 taken ww\n4 taken pw\n5 taken pp\n\
-                6 taken pp\n7 taken cp\n8 taken cc\nend 8 5\n";
+    let text = include_str!("../../../crates/rehearsal/stdout");
     for program in JOURNALS {
         assert_eq!(rehearsal(program, &journal(2, &CLOSE)), text);
     }
@@ -412,10 +411,7 @@ fn a_rehearsal_over_the_limit() {
 
 #[test]
 fn the_two_worked_sheets() {
-    let two = "sheet 2 sites 9 states\n1.0 w y 2.0 n abort\n1.1 w y 2.0,2.1,2.2 n abort\n\
-               1.2 a y 2.1,2.2 n abort\n1.3 c y 2.1,2.3 y commit\n2.0 w y 1.0,1.1 n abort\n\
-               2.1 w y 1.1,1.2,1.3 n blocked\n2.2 a y 1.1,1.2 n abort\n2.3 c y 1.3 y commit\n\
-               verdict blocking at 2.1 condition 1\ntolerance 0\n";
+    let two = include_str!("../../../crates/sheets/stdout");
     let sheet = central(&[false]).bytes();
     assert_eq!(sheet[..2], [0, 113]);
     for program in JUDGES {

@@ -29,8 +29,7 @@ fn a_good_close_of_two() {
         act(1, Step::Conclude),
         deliver(2, Kind::Commit, 1),
     ];
-    let text = "sites 2\n1 taken wq\n2 taken ww\n3 taken ww\n4 taken pw\n5 taken pp\n6 taken pp\n\
-                7 taken cp\n8 taken cc\nend 8 5\n";
+    let text = include_str!("../../../crates/rehearsal/stdout");
     assert_eq!(journal(2, &events).rehearse(), text);
 }
 

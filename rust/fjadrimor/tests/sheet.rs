@@ -51,11 +51,7 @@ fn what_is_said_of_its_local_states() {
 
 #[test]
 fn its_report() {
-    let text = "sheet 2 sites 9 states\n1.0 w y 2.0 n abort\n1.1 w y 2.0,2.1,2.2 n abort\n\
-                1.2 a y 2.1,2.2 n abort\n1.3 c y 2.1,2.3 y commit\n2.0 w y 1.0,1.1 n abort\n\
-                2.1 w y 1.1,1.2,1.3 n blocked\n2.2 a y 1.1,1.2 n abort\n2.3 c y 1.3 y commit\n\
-                verdict blocking at 2.1 condition 1\ntolerance 0\n";
-    assert_eq!(two_phase().report(), text);
+    assert_eq!(two_phase().report(), include_str!("../../../crates/sheets/stdout"));
 }
 
 #[test]

@@ -27,8 +27,7 @@ fn the_worked_example() {
         [5, 1, 0, 0, 0, 0],
         [2, 2, 1, 7, 0, 0],
     ];
-    let text = "sites 2\n1 taken wq\n2 taken ww\n3 taken ww\n4 taken pw\n5 taken pp\n\
-                6 taken pp\n7 taken cp\n8 taken cc\nend 8 5\n";
+    let text = include_str!("../../../crates/rehearsal/stdout");
     assert_eq!(rehearse(&journal(2, &events)), text);
 }
 
