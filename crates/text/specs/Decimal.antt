@@ -10,7 +10,7 @@ abbrev pub digitsIn : ℕ → ℕ → List ℕ
 digitsIn zero n = []
 digitsIn (suc k) n = cond (ltb n 10) ((48 + n) ∷ []) (digitsIn k (n / 10) ++ ((48 + n % 10) ∷ []))
 
--- a number has fewer digits than ones
+-- all digits of n, of which there are at most n + 1
 unfoldable pub decimal : ℕ → List ℕ
 decimal n = digitsIn (suc n) n
 
@@ -19,5 +19,6 @@ abbrev pub valueFrom : ℕ → List ℕ → ℕ
 valueFrom v [] = v
 valueFrom v (d ∷ ds) = valueFrom (10 * v + (d - 48)) ds
 
+-- the number that digits mean
 abbrev pub valueOf : List ℕ → ℕ
 valueOf ds = valueFrom 0 ds
