@@ -32,12 +32,15 @@ upTo f (suc q) = upTo f q ++ f q (upTo f q)
 unfoldable pub nameOf : ℕ → List ℕ
 nameOf p = joined (decimal (p / 8 + 1) ∷ said "." ∷ decimal (p % 8) ∷ [])
 
+-- "mark (w, a, c)": 0 working, 1 abort, 2 commit, with the spaces around it
 unfoldable pub markWord : ℕ → List ℕ
 markWord mark = cond (eqb mark 0) (said " w ") (cond (eqb mark 1) (said " a ") (said " c "))
 
+-- "reached" and "committable", each as y or n
 unfoldable pub yesWord : Bool → List ℕ
 yesWord b = cond b (said "y ") (said "n ")
 
+-- "decision", at the end of a line: 0 unreached, 1 abort, 2 commit, 3 blocked
 unfoldable pub decisionWord : ℕ → List ℕ
 decisionWord d = cond (eqb d 0) (said "-\n") (cond (eqb d 1) (said "abort\n") (cond (eqb d 2) (said "commit\n") (said "blocked\n")))
 
@@ -53,9 +56,11 @@ memberIn m q later = cond (bit m q) (memberOf later q) []
 abbrev pub membersOf : ℕ → List ℕ
 membersOf m = upTo (λ q before. memberIn m q (ltb 0 (length before))) 32
 
+-- "set (or `-`)": an empty one is `-`
 unfoldable pub setWord : ℕ → List ℕ
 setWord m = cond (eqb m 0) (said "-") (membersOf m)
 
+-- the line of the local state p with that mark, by what is said of it
 unfoldable pub lineOf : ℕ → ℕ → Local → List ℕ
 lineOf p mark l =
     joined
@@ -75,26 +80,31 @@ linesOf s l = upTo (λ p before. lineIn s l p) 32
 unfoldable pub headLine : ℕ → ℕ → List ℕ
 headLine sites states = joined (said "sheet " ∷ decimal sites ∷ said " sites " ∷ decimal states ∷ said " states\n" ∷ [])
 
+-- "A blocking verdict shows the lowest site, state, condition broken, in that order"
 unfoldable pub blockingLine : ℕ → ℕ → ℕ → List ℕ
 blockingLine site state condition =
     joined (said "verdict blocking at " ∷ decimal site ∷ said "." ∷ decimal state ∷ said " condition " ∷ decimal condition ∷ said "\n" ∷ [])
 
+-- "A nonblocking sheet prints `verdict nonblocking`"; any other, what blocks it
 unfoldable pub rulingLine : Verdict → List ℕ
 rulingLine v = cond (v .nonblocking) (said "verdict nonblocking\n") (blockingLine (v .site) (v .state) (v .condition))
 
+-- the last line: the verdict's tolerance
 unfoldable pub toleranceLine : ℕ → List ℕ
 toleranceLine t = joined (said "tolerance " ∷ decimal t ∷ said "\n" ∷ [])
 
--- "a refused one `refused N` only"
+-- "`refused N`", N the ground
 unfoldable pub refusedLine : ℕ → List ℕ
 refusedLine ground = joined (said "refused " ∷ decimal ground ∷ said "\n" ∷ [])
 
 -- ---- the whole
 
+-- an accepted sheet: the first line, a line for each state, the verdict, the tolerance
 unfoldable pub acceptedText : Sheet → Verdict → List ℕ
 acceptedText s v =
     joined (headLine (v .sites) (v .states) ∷ linesOf s (v .locals) ∷ rulingLine v ∷ toleranceLine (v .tolerance) ∷ [])
 
+-- the text for any verdict: "a refused one `refused N` only"
 unfoldable pub textOf : Sheet → Verdict → List ℕ
 textOf s v = cond (eqb (v .refusal) 0) (acceptedText s v) (refusedLine (v .refusal))
 
