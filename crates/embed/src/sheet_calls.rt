@@ -98,7 +98,8 @@ fn put_verdict(out: &mut [u8], verdict: Verdict)
     put_locals(&mut out[14..], locals);
 }
 
-// What a refusal leaves of the room: zeros.
+// What a refusal leaves of the room: zeros. It is there for speed: `put_verdict` would write the same, but 32 empty local states one by one
+// instead of 206 zeros at once.
 fn put_zeros(out: &mut [u8])
     requires { ⌜ 206 ≤ length (now out) ⌝ }
     ensures { λ _. ⌜ now (out .exit) ≡ replicate 206 0 ++ drop 206 (now (out .entry)) ⌝ }
