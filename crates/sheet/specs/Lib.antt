@@ -1,3 +1,4 @@
+-- A sheet's record, grounds and paths in 01's order; from GroundLaws on, what follows.
 pub mod Index
 pub mod IndexLaws
 pub mod Record
