@@ -15,7 +15,7 @@ use Rattle.text.specs.Decimal.{decimal}
 use Rattle.text.specs.DecimalLaws.{width-decimal}
 use Rattle.sets.specs.Sets.{bit}
 use Rattle.sets.specs.SetLaws.{one-if}
-use Rattle.sheet.specs.Index.{sum}
+use Rattle.sheet.specs.Index.{sumBelow}
 use Rattle.sheet.specs.Fine.{Fine}
 use Rattle.sheet.specs.declared.Sheet.{Sheet}
 use Rattle.judge.specs.Facts.{stands, markOf, noLocal, Ruling, Obeying, Says, Breaks}
@@ -81,10 +81,10 @@ decision-size d = go (eqb d 0) (eqb d 1) (eqb d 2)
 
 -- so many of the first k local states are not of site i + 1
 others : ℕ → ℕ → ℕ
-others i k = sum (λ q. one-if (not (eqb (q / 8) i))) k
+others i k = sumBelow (λ q. one-if (not (eqb (q / 8) i))) k
 
 others-24 : (i : ℕ) → i < 4 → others i 32 ≡ 24
-unfolding others sum
+unfolding others sumBelow
 others-24 zero h = refl
 others-24 (suc zero) h = refl
 others-24 (suc (suc zero)) h = refl
@@ -102,7 +102,7 @@ module _ (m i : ℕ) (out : (q : ℕ) → bit m q ≡ true → q / 8 ≢ i) wher
 
   -- the members below k take four bytes each, but the first three
   members-size : (k : ℕ) → k ≤ 32 → length (below k) ≤ 4 * others i k - 1
-  unfolding upTo others sum memberIn
+  unfolding upTo others sumBelow memberIn
   members-size zero h = omega arith
   members-size (suc k) h = go (bit m k) refl (decLt 0 (length (below k))) (members-size k (omega arith))
     where

@@ -23,7 +23,7 @@ put-none text at h =
     record {
       room = omega arith;
       to = omega arith;
-      now = sym (ap (λ (k : ℕ). take at text ++ drop k text) (add-zero at) ∙ take-append-drop at text);
+      bytes = sym (ap (λ (k : ℕ). take at text ++ drop k text) (add-zero at) ∙ take-append-drop at text);
     }
 
 -- of the text x, the pieces ps are left, and there is room for them

@@ -39,7 +39,7 @@ module _ (b w₀ w t₀ t : List ℕ) (v : Verdict) (r : ℕ) (h : 3722 ≤ leng
   tells x e p =
       let n : r ≡ length x = omega (arith, p .to) in
       told h v o (n ∙ ap length e)
-      (p .now ∙ ap (λ (y : List ℕ). y ++ drop (0 + length x) t₀) e ∙ ap (λ (k : ℕ). textOf (sheetOf b) v ++ drop k t₀) (sym (p .to)))
+      (p .bytes ∙ ap (λ (y : List ℕ). y ++ drop (0 + length x) t₀) e ∙ ap (λ (k : ℕ). textOf (sheetOf b) v ++ drop k t₀) (sym (p .to)))
 
   pub tells-refused : (v .refusal ≡ 0 → ⊥) → Put t₀ 0 (refusedLine (v .refusal)) t r → Reported b w₀ w t₀ t r
   unfolding textOf

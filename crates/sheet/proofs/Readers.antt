@@ -12,7 +12,7 @@ use lib.Arith.{bin-ind}
 use lib.Bits.{bitAnd, bitOr, and-step, or-step, and-comm, and-le-r, or-add-and}
 use lib.Dec.{eqb}
 use lib.ListN.{getD}
-use Rattle.sheet.specs.Index.{any, table}
+use Rattle.sheet.specs.Index.{someBelow, table}
 use Rattle.sheet.specs.IndexLaws.{table-at}
 use Rattle.sheet.specs.Record.{moveOf}
 use Rattle.sheet.specs.Grounds.{shares, readElsewhere}
@@ -70,13 +70,13 @@ meets-or m a b =
 
 module _ (s : Sheet) (t : Transition) where
   -- of the first n transitions one of another site shares a message exactly where those that they read do
-  read-among : (n : ℕ) → meets (readWithout (t .site) s n) (t .reads) ≡ any (λ (i : ℕ). shares t (moveOf s i)) n
-  unfolding any readWithout withReads shares
+  read-among : (n : ℕ) → meets (readWithout (t .site) s n) (t .reads) ≡ someBelow (λ (i : ℕ). shares t (moveOf s i)) n
+  unfolding someBelow readWithout withReads shares
   read-among zero = refl
   read-among (suc n) = go (read-among n) (ℕ-discrete (moveOf s n .site) (t .site))
     where
-      go : meets (readWithout (t .site) s n) (t .reads) ≡ any (λ (i : ℕ). shares t (moveOf s i)) n → Dec (moveOf s n .site ≡ t .site)
-          → meets (withReads (t .site) (moveOf s n) (readWithout (t .site) s n)) (t .reads) ≡ (any (λ (i : ℕ). shares t (moveOf s i)) n || shares t (moveOf s n))
+      go : meets (readWithout (t .site) s n) (t .reads) ≡ someBelow (λ (i : ℕ). shares t (moveOf s i)) n → Dec (moveOf s n .site ≡ t .site)
+          → meets (withReads (t .site) (moveOf s n) (readWithout (t .site) s n)) (t .reads) ≡ (someBelow (λ (i : ℕ). shares t (moveOf s i)) n || shares t (moveOf s n))
       go before (yes e) = simp (eq-eqb _ _ e, or-false) before
       go before (no d) =
           simp (ne-eqb _ _ d)

@@ -10,8 +10,8 @@ use borrow.Author.Tests.{ltb-false, leb-false, lt-ltb, le-ltb, eqb-true, eqb-fal
 use lib.Bits.{bitAnd}
 use lib.Dec.{eqb, leb, ltb}
 use lib.ListN.{length, getD, List·getD-eq-default}
-use Rattle.sheet.specs.Index.{any, table}
-use Rattle.sheet.specs.IndexLaws.{any-at, any-some, and-true, or-neither, table-at, length-table}
+use Rattle.sheet.specs.Index.{someBelow, table}
+use Rattle.sheet.specs.IndexLaws.{none-at, found-some, and-true, or-neither, table-at, length-table}
 use Rattle.sheet.specs.Record.{byte, wordAt, sitesOf, countOf, countsOf, markOf, movesOf, movesAt, transitionAt, transitionFrom, transitionIn, transitionOf, partsBy, partsOf, statesOf, markIn, moveOf, noTransition, lengthOf, lengthFor}
 use Rattle.sheet.specs.Grounds.{misframed, outside, miscountedAt, miscounted, mismeasuredBy, mismarked, misplaced, unranged, readsNothing, shares, readElsewhere, leaves, undoes, someMove, goes, leads}
 use Rattle.sheet.specs.GroundLaws.{Framed, Ordered, Passes}
@@ -59,7 +59,7 @@ placed s t e =
 -- a transition of a sheet has no fault that no transition has
 move-not : (fault : Sheet → Transition → Bool) (s : Sheet) (k : ℕ) → someMove fault s ≡ false → k < s .moves → fault s (moveOf s k) ≡ false
 unfolding someMove
-move-not fault s k e h = any-at (λ i. fault s (moveOf s i)) (s .moves) k e h
+move-not fault s k e h = none-at (λ i. fault s (moveOf s i)) (s .moves) k e h
 
 -- what is marked a stays marked a
 keeps : (a from to : ℕ) → leaves a from to ≡ false → from ≡ a → to ≡ a
@@ -77,14 +77,14 @@ module _ (s : Sheet) (o : Ordered s) where
   marked : (k : ℕ) → k < 32 → getD (s .marks) k 0 < 3
   unfolding unranged mismarked
   marked k h =
-      let most : getD (s .marks) k 0 ≤ 2 = ltb-false _ _ (any-at (mismarked (s .marks)) 32 k (or-neither _ _ (o .ranged) .0) h) in
+      let most : getD (s .marks) k 0 ≤ 2 = ltb-false _ _ (none-at (mismarked (s .marks)) 32 k (or-neither _ _ (o .ranged) .0) h) in
       omega arith
 
   move-placed : (k : ℕ) → k < s .moves → Placed s (moveOf s k)
   unfolding unranged
   move-placed k h =
       placed s (moveOf s k)
-      (move-not misplaced s k (or-neither (any (mismarked (s .marks)) 32) (someMove misplaced s) (o .ranged) .1) h)
+      (move-not misplaced s k (or-neither (someBelow (mismarked (s .marks)) 32) (someMove misplaced s) (o .ranged) .1) h)
 
   move-prompted : (k : ℕ) → k < s .moves → 1 ≤ moveOf s k .reads
   unfolding readsNothing
@@ -102,7 +102,7 @@ module _ (s : Sheet) (o : Ordered s) where
   unfolding readElsewhere shares
   reads-apart i j h l d =
       let none : shares (moveOf s j) (moveOf s i) ≡ false =
-      any-at (λ u. shares (moveOf s j) (moveOf s u)) (s .moves) i (move-not readElsewhere s j (o .apart) l) h in
+      none-at (λ u. shares (moveOf s j) (moveOf s u)) (s .moves) i (move-not readElsewhere s j (o .apart) l) h in
       eqb-true _ 0 (not-false _ (sym (simp (ne-eqb _ _ d)) ∙ none))
 
 -- four bytes are a number below 2^32
@@ -165,7 +165,7 @@ module _ (l : List ℕ) (f : Framed l) where
   count-there i h =
       let four : sitesOf l ≤ 4 = sites-few in
       let is : getD (countsOf l) i 0 ≡ byte l (4 + i) = table-at (countOf l) 4 i 0 (omega arith) ∙ simp (lt-ltb _ _ h) in
-      let a = among 1 8 (byte l (4 + i)) (any-at (miscountedAt l) (sitesOf l) i (or-neither (outside 2 4 (sitesOf l)) (any (miscountedAt l) (sitesOf l)) (f .counted) .1) h) in
+      let a = among 1 8 (byte l (4 + i)) (none-at (miscountedAt l) (sitesOf l) i (or-neither (outside 2 4 (sitesOf l)) (someBelow (miscountedAt l) (sitesOf l)) (f .counted) .1) h) in
       record { low = omega (arith, a .low); high = omega (arith, a .high) }
 
   count-absent : (i : ℕ) → sitesOf l ≤ i → getD (countsOf l) i 0 ≡ 0
@@ -212,7 +212,7 @@ module _ (l : List ℕ) (p : Passes l) where
   pub leads-low : (site q r : ℕ) → leads (partsOf l) site q r ≡ true → (1 ≤ site) × (site ≤ 4) × (q < 8) × (r < 8)
   unfolding leads goes partsBy
   leads-low site q r e =
-      let f = any-some (λ i. goes (moveOf (partsOf l) i) site q r) (partsOf l .moves) e in
+      let f = found-some (λ i. goes (moveOf (partsOf l) i) site q r) (partsOf l .moves) e in
       let t = moveOf (partsOf l) (f .place) in
       let a = and-true _ _ (f .passes) in
       let b = and-true _ _ (a .0) in

@@ -7,7 +7,7 @@ use mathlib.Core.List.{List}
 use lib.Dec.{eqb, leb, ltb}
 use lib.Bits.{bitAnd}
 use lib.ListN.{length, getD}
-use Rattle.sheet.specs.Index.{any}
+use Rattle.sheet.specs.Index.{someBelow}
 use Rattle.sheet.specs.Record.{byte, lengthOf, sitesOf, countsOf, movesAt, lengthFor, movesOf, partsOf, noSheet, statesOf, markIn, moveOf}
 use Rattle.sheet.specs.declared.Transition.{Transition}
 use Rattle.sheet.specs.declared.Sheet.{Sheet}
@@ -32,7 +32,7 @@ miscountedAt l i = outside 1 8 (byte l (4 + i))
 
 -- 23: site or state count missing or outside its range; a missing one counts as 0, which is outside
 unfoldable pub miscounted : List ℕ → Bool
-miscounted l = outside 2 4 (sitesOf l) || any (miscountedAt l) (sitesOf l)
+miscounted l = outside 2 4 (sitesOf l) || someBelow (miscountedAt l) (sitesOf l)
 
 -- 24: no transition count, count over 64, or L not what the counts give; n sites, with the state counts cs
 unfoldable pub mismeasuredBy : List ℕ → ℕ → List ℕ → Bool
@@ -49,7 +49,7 @@ mismeasured l = mismeasuredBy l (sitesOf l) (countsOf l)
 
 -- some transition of the sheet has the fault
 unfoldable pub someMove : (Sheet → Transition → Bool) → Sheet → Bool
-someMove fault s = any (λ (i : ℕ). fault s (moveOf s i)) (s .moves)
+someMove fault s = someBelow (λ (i : ℕ). fault s (moveOf s i)) (s .moves)
 
 -- the mark at place k is not 0 to 2
 unfoldable pub mismarked : List ℕ → ℕ → Bool
@@ -65,7 +65,7 @@ misplaced s t =
 
 -- 25: mark, site, state or vote outside its range
 unfoldable pub unranged : Sheet → Bool
-unranged s = any (mismarked (s .marks)) 32 || someMove misplaced s
+unranged s = someBelow (mismarked (s .marks)) 32 || someMove misplaced s
 
 -- the transition reads nothing
 unfoldable pub readsNothing : Sheet → Transition → Bool
@@ -81,7 +81,7 @@ shares t u = not (eqb (u .site) (t .site)) && not (eqb (bitAnd (u .reads) (t .re
 
 -- another site reads a message that the transition reads
 unfoldable pub readElsewhere : Sheet → Transition → Bool
-readElsewhere s t = any (λ (i : ℕ). shares t (moveOf s i)) (s .moves)
+readElsewhere s t = someBelow (λ (i : ℕ). shares t (moveOf s i)) (s .moves)
 
 -- 27: a message read by two sites
 abbrev pub contended : Sheet → Bool
@@ -107,17 +107,17 @@ goes t site q r = eqb (t .site) site && eqb (t .from) q && eqb (t .to) r
 
 -- some transition of the site goes from state q to state r
 unfoldable pub leads : Sheet → ℕ → ℕ → ℕ → Bool
-leads s site q r = any (λ (i : ℕ). goes (moveOf s i) site q r) (s .moves)
+leads s site q r = someBelow (λ (i : ℕ). goes (moveOf s i) site q r) (s .moves)
 
 -- from state q a walk along the arrows f, among eight states, shows d states after q
 unfoldable pub walks : (ℕ → ℕ → Bool) → ℕ → ℕ → Bool
 walks f zero q = true
-walks f (suc d) q = any (λ (r : ℕ). f q r && walks f d r) 8
+walks f (suc d) q = someBelow (λ (r : ℕ). f q r && walks f d r) 8
 
 -- 29: a cycle, found by walks: one from some state of some site shows eight states after it, and so shows a state twice.
 -- What a cycle is says specs/Paths.antt, and specs/CycleLaws.antt that this finds it.
 unfoldable pub cyclic : Sheet → Bool
-cyclic s = any (λ (k : ℕ). walks (leads s (k / 8 + 1)) 8 (k % 8)) 32
+cyclic s = someBelow (λ (k : ℕ). walks (leads s (k / 8 + 1)) 8 (k % 8)) 32
 
 -- The answer.
 

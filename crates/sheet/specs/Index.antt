@@ -5,14 +5,14 @@ use mathlib.Core.Bool.{Bool, false, _||_}
 use mathlib.Core.List.{List, [], _∷_, _++_}
 
 -- some number below n passes
-unfoldable pub any : (ℕ → Bool) → ℕ → Bool
-any f zero = false
-any f (suc n) = any f n || f n
+unfoldable pub someBelow : (ℕ → Bool) → ℕ → Bool
+someBelow f zero = false
+someBelow f (suc n) = someBelow f n || f n
 
 -- f at the numbers below n, summed up
-unfoldable pub sum : (ℕ → ℕ) → ℕ → ℕ
-sum f zero = 0
-sum f (suc n) = sum f n + f n
+unfoldable pub sumBelow : (ℕ → ℕ) → ℕ → ℕ
+sumBelow f zero = 0
+sumBelow f (suc n) = sumBelow f n + f n
 
 -- f at the numbers below n, in their order
 unfoldable pub table : {A : Type 0} → (ℕ → A) → ℕ → List A

@@ -1,4 +1,4 @@
--- Laws of any, sum and table: what a search loop and a filling loop have at each turn and at their end.
+-- Laws of someBelow, sumBelow and table: what a search loop and a filling loop have at each turn and at their end.
 -- Assumes nothing.
 use Prim.Native.Nat.{ℕ, zero, suc, _+_, _≤_, _<_}
 use mathlib.Core.Bool.{Bool, true, false, _&&_, _||_, false≢true, or-true}
@@ -9,7 +9,7 @@ use native.Mathlib.Numerals.{add-one}
 use native.Mathlib.Omega.{arith}
 use lib.ListN.{length, getD, set, length-set, length-append, List·getD-append}
 use lib.Seq.{getD-set-same, getD-set-other, getD-at, ext-getD}
-use Rattle.sheet.specs.Index.{any, sum, table}
+use Rattle.sheet.specs.Index.{someBelow, sumBelow, table}
 
 or-left : (a b : Bool) → a ≡ true → (a || b) ≡ true
 or-left true b e = refl
@@ -25,22 +25,22 @@ or-neither true b e = absurd (false≢true (sym e))
 or-neither false b e = (refl, e)
 
 -- a number that passes is found
-pub any-found : (f : ℕ → Bool) (n k : ℕ) → k < n → f k ≡ true → any f n ≡ true
-unfolding any
-any-found f zero k h e = absurd (omega arith)
-any-found f (suc n) k h e = go (λ l. any-found f n k l e) (ℕ-discrete k n)
+pub some-found : (f : ℕ → Bool) (n k : ℕ) → k < n → f k ≡ true → someBelow f n ≡ true
+unfolding someBelow
+some-found f zero k h e = absurd (omega arith)
+some-found f (suc n) k h e = go (λ l. some-found f n k l e) (ℕ-discrete k n)
   where
-    go : (k < n → any f n ≡ true) → Dec (k ≡ n) → (any f n || f n) ≡ true
-    go r (yes q) = ap (λ (b : Bool). any f n || b) (ap f (sym q) ∙ e) ∙ or-true (any f n)
-    go r (no q) = or-left (any f n) (f n) (r (omega arith))
+    go : (k < n → someBelow f n ≡ true) → Dec (k ≡ n) → (someBelow f n || f n) ≡ true
+    go r (yes q) = ap (λ (b : Bool). someBelow f n || b) (ap f (sym q) ∙ e) ∙ or-true (someBelow f n)
+    go r (no q) = or-left (someBelow f n) (f n) (r (omega arith))
 
 -- where nothing is found, no number passes
-pub any-at : (f : ℕ → Bool) (n k : ℕ) → any f n ≡ false → k < n → f k ≡ false
-any-at f n k e h = go (f k) refl
+pub none-at : (f : ℕ → Bool) (n k : ℕ) → someBelow f n ≡ false → k < n → f k ≡ false
+none-at f n k e h = go (f k) refl
   where
     go : (b : Bool) → f k ≡ b → f k ≡ false
     go false p = p
-    go true p = absurd (false≢true (sym e ∙ any-found f n k h p))
+    go true p = absurd (false≢true (sym e ∙ some-found f n k h p))
 
 -- a number below n that passes
 pub record Found (f : ℕ → Bool) (n : ℕ) : Type 0 where
@@ -48,12 +48,12 @@ pub record Found (f : ℕ → Bool) (n : ℕ) : Type 0 where
   pub below : place < n
   pub passes : f place ≡ true
 
-pub any-some : (f : ℕ → Bool) (n : ℕ) → any f n ≡ true → Found f n
-unfolding any
-any-some f zero e = absurd (false≢true e)
-any-some f (suc n) e = go (any-some f n) (f n) refl (any f n) refl
+pub found-some : (f : ℕ → Bool) (n : ℕ) → someBelow f n ≡ true → Found f n
+unfolding someBelow
+found-some f zero e = absurd (false≢true e)
+found-some f (suc n) e = go (found-some f n) (f n) refl (someBelow f n) refl
   where
-    go : (any f n ≡ true → Found f n) → (b : Bool) → f n ≡ b → (a : Bool) → any f n ≡ a → Found f (suc n)
+    go : (someBelow f n ≡ true → Found f n) → (b : Bool) → f n ≡ b → (a : Bool) → someBelow f n ≡ a → Found f (suc n)
     go before true p a q = record { place = n; below = omega arith; passes = p }
     go before false p true q =
         let r : Found f n = before q in
@@ -63,34 +63,34 @@ any-some f (suc n) e = go (any-some f n) (f n) refl (any f n) refl
 -- a search below n that has passed i numbers and found nothing
 pub record Unfound (f : ℕ → Bool) (n i : ℕ) : Type 0 where
   pub within : i ≤ n
-  pub none : any f i ≡ false
+  pub none : someBelow f i ≡ false
 
 pub search-begins : (f : ℕ → Bool) (n : ℕ) → Unfound f n 0
-unfolding any
+unfolding someBelow
 search-begins f n = record { within = omega arith; none = refl }
 
 pub search-goes-on : {f : ℕ → Bool} {n i : ℕ} → Unfound f n i → i < n → f i ≡ false → Unfound f n (i + 1)
-unfolding any
+unfolding someBelow
 search-goes-on {f} {n} {i} u h e =
-    record { within = omega arith; none = ap (any f) (add-one i) ∙ ap₂ (λ (a b : Bool). a || b) (u .none) e }
+    record { within = omega arith; none = ap (someBelow f) (add-one i) ∙ ap₂ (λ (a b : Bool). a || b) (u .none) e }
 
-pub search-ends : {f : ℕ → Bool} {n i : ℕ} → Unfound f n i → n ≤ i → any f n ≡ false
-search-ends {f} {n} {i} u h = ap (any f) (omega (arith, u .within)) ∙ u .none
+pub search-ends : {f : ℕ → Bool} {n i : ℕ} → Unfound f n i → n ≤ i → someBelow f n ≡ false
+search-ends {f} {n} {i} u h = ap (someBelow f) (omega (arith, u .within)) ∙ u .none
 
 -- two tests that agree below n find the same
-pub any-same : (f g : ℕ → Bool) (n : ℕ) → ((k : ℕ) → k < n → f k ≡ g k) → any f n ≡ any g n
-unfolding any
-any-same f g zero h = refl
-any-same f g (suc n) h =
-    ap₂ (λ (a b : Bool). a || b) (any-same f g n (λ k l. h k (omega arith))) (h n (omega arith))
+pub some-same : (f g : ℕ → Bool) (n : ℕ) → ((k : ℕ) → k < n → f k ≡ g k) → someBelow f n ≡ someBelow g n
+unfolding someBelow
+some-same f g zero h = refl
+some-same f g (suc n) h =
+    ap₂ (λ (a b : Bool). a || b) (some-same f g n (λ k l. h k (omega arith))) (h n (omega arith))
 
-pub sum-none : (f : ℕ → ℕ) → sum f 0 ≡ 0
-unfolding sum
+pub sum-none : (f : ℕ → ℕ) → sumBelow f 0 ≡ 0
+unfolding sumBelow
 sum-none f = refl
 
-pub sum-more : (f : ℕ → ℕ) (n : ℕ) → sum f (n + 1) ≡ sum f n + f n
-unfolding sum
-sum-more f n = ap (sum f) (add-one n)
+pub sum-more : (f : ℕ → ℕ) (n : ℕ) → sumBelow f (n + 1) ≡ sumBelow f n + f n
+unfolding sumBelow
+sum-more f n = ap (sumBelow f) (add-one n)
 
 module _ {A : Type 0} where
   pub length-table : (f : ℕ → A) (n : ℕ) → length (table f n) ≡ n

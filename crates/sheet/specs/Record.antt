@@ -6,7 +6,7 @@ use mathlib.Core.Bool.{cond}
 use mathlib.Core.List.{List}
 use lib.Dec.{ltb}
 use lib.ListN.{getD, replicate}
-use Rattle.sheet.specs.Index.{sum, table}
+use Rattle.sheet.specs.Index.{sumBelow, table}
 use Rattle.sheet.specs.declared.Transition.{Transition}
 use Rattle.sheet.specs.declared.Sheet.{Sheet}
 
@@ -38,7 +38,7 @@ countsOf l = table (countOf l) 4
 
 -- the states of the sites before place i
 unfoldable pub statesBefore : List ℕ → ℕ → ℕ
-statesBefore cs i = sum (λ (j : ℕ). getD cs j 0) i
+statesBefore cs i = sumBelow (λ (j : ℕ). getD cs j 0) i
 
 -- the mark of state q of the site at place i: the marks follow the counts, site by site
 abbrev pub markAt : ℕ → List ℕ → ℕ → ℕ → ℕ

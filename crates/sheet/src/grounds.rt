@@ -5,7 +5,7 @@ ghost use mathlib.Core.Bool.{not};
 ghost use lib.Bits.{bitAnd};
 ghost use lib.Dec.{eqb};
 ghost use lib.ListN.{getD};
-ghost use Rattle.sheet.specs.Index.{any, table};
+ghost use Rattle.sheet.specs.Index.{someBelow, table};
 ghost use Rattle.sheet.specs.Grounds.{mismarked, misplaced, contended, undoes, someMove, partsGround};
 ghost use Rattle.sheet.specs.Faults.{faultOf, Sited, withReads, readWithout, readBeside};
 use super::Sheet;
@@ -43,7 +43,7 @@ pub(crate) fn parts_ground(sheet: Sheet) -> u8
 
 // Whether some mark is outside its range.
 fn some_mark(marks: [u8; 32]) -> bool
-    ensures { λ r. ⌜ r ≡ any (mismarked marks) 32 ⌝ }
+    ensures { λ r. ⌜ r ≡ someBelow (mismarked marks) 32 ⌝ }
 {
     let mut k = 0;
     while k < 32 {

@@ -27,4 +27,4 @@ reached text at part = cond (fits (length text) at (length part)) (at + length p
 pub record Put (text : List ℕ) (at : ℕ) (part last : List ℕ) (r : ℕ) : Type 0 where
   pub room : at + length part ≤ length text
   pub to : r ≡ at + length part
-  pub now : last ≡ over text at part
+  pub bytes : last ≡ over text at part

@@ -19,14 +19,14 @@ pub put-fits : (text : List ℕ) (at : ℕ) (part : List ℕ) {last : List ℕ} 
 unfolding fits spliced reached
 put-fits text at part h e =
     let f : fits (length text) at (length part) ≡ true = le-leb (at + length part) (length text) h in
-    record { room = h; to = simp f at (e .0); now = simp f at (e .1) }
+    record { room = h; to = simp f at (e .0); bytes = simp f at (e .1) }
 
 module _ {text : List ℕ} {at : ℕ} {part last : List ℕ} {r : ℕ} (p : Put text at part last r) where
   front-length : length (take at text ++ part) ≡ r
   front-length = length-append (take at text) part ∙ omega (arith, length-take-le at text (omega (arith, p .room)), p .to)
 
   whole : last ≡ (take at text ++ part) ++ drop (at + length part) text
-  whole = p .now ∙ sym (append-assoc (take at text) part (drop (at + length part) text))
+  whole = p .bytes ∙ sym (append-assoc (take at text) part (drop (at + length part) text))
 
   -- the bytes lent stay as many
   pub put-length : length last ≡ length text
@@ -49,7 +49,7 @@ module _ {text : List ℕ} {at : ℕ} {part last : List ℕ} {r : ℕ} (p : Put 
       record {
         room = omega (arith, n .room, p .to, put-length);
         to = omega (arith, n .to, p .to);
-        now = n .now ∙ (λ i. here i ++ (more ++ gone i)) ∙ simp append-assoc;
+        bytes = n .bytes ∙ (λ i. here i ++ (more ++ gone i)) ∙ simp append-assoc;
       }
 
   -- a part may be written in another way
@@ -58,7 +58,7 @@ module _ {text : List ℕ} {at : ℕ} {part last : List ℕ} {r : ℕ} (p : Put 
 
 -- one byte is put
 pub put-byte : (text : List ℕ) (at b : ℕ) → at < length text → Put text at (b ∷ []) (set text at b) (at + 1)
-put-byte text at b h = record { room = omega arith; to = refl; now = set-split text at b h ∙ ap (λ (k : ℕ). take at text ++ (b ∷ drop k text)) (sym (add-one at)) }
+put-byte text at b h = record { room = omega arith; to = refl; bytes = set-split text at b h ∙ ap (λ (k : ℕ). take at text ++ (b ∷ drop k text)) (sym (add-one at)) }
 
 -- a part fits when it is no longer than the room left
 pub room-left : (room at size : ℕ) → at ≤ room → leb size (room - at) ≡ leb (at + size) room

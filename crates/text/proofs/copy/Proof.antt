@@ -49,7 +49,7 @@ returns c =
     record {
       room = c .before .before .pre;
       to = omega arith;
-      now =
+      bytes =
           c .before .loop .inv .1 ∙ ap (paste (c .before .before .args .text .now) (c .before .before .args .at) (c .before .before .args .part .now)) all
           ∙ ap (λ (l : List ℕ). take (c .before .before .args .at) (c .before .before .args .text .now) ++ l ++ drop (c .before .before .args .at + length (c .before .before .args .part .now)) (c .before .before .args .text .now)) (take-length (c .before .before .args .part .now))
           ∙ append-assoc (take (c .before .before .args .at) (c .before .before .args .text .now)) (c .before .before .args .part .now) (drop (c .before .before .args .at + length (c .before .before .args .part .now)) (c .before .before .args .text .now));

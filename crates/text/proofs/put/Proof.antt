@@ -30,7 +30,7 @@ returns-2 : tie.Need-returns-2
 unfolding spliced reached
 returns-2 c =
     let yes : fits (length (c .before .before .before .before .before .before .before .before .args .text .now)) (c .before .before .before .before .before .before .before .before .args .at) (length (c .before .before .before .before .before .before .before .before .args .part .now)) ≡ true = (sym (c .before .before .before .before .before .has-room .ensures) ∙ not-false (c .before .before .before .before .before .has-room .result) (c .before .before .before .before .if1 .left)) in
-    (simp yes (c .before .before .copy .ensures .to), simp yes (c .before .before .copy .ensures .now))
+    (simp yes (c .before .before .copy .ensures .to), simp yes (c .before .before .copy .ensures .bytes))
 
 pub put-spec : {M : Type 1} → statement M
 put-spec = tie.close (tie.spec has-room-requires returns copy-requires same-length returns-2)

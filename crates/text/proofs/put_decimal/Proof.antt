@@ -34,7 +34,7 @@ returns-2 : tie.Need-returns-2
 unfolding spliced reached
 returns-2 c =
     let yes : fits (length (c .before .before .before .before .before .before .before .before .args .text .now)) (c .before .before .before .before .before .before .before .before .args .at) (length (decimal (c .before .before .before .before .before .before .before .before .args .n))) ≡ true = ap (fits (length (c .before .before .before .before .before .before .before .before .args .text .now)) (c .before .before .before .before .before .before .before .before .args .at)) (sym (c .before .before .before .before .before .before .width .ensures)) ∙ (sym (c .before .before .before .before .before .has-room .ensures) ∙ not-false (c .before .before .before .before .before .has-room .result) (c .before .before .before .before .if1 .left)) in
-    (simp yes (c .before .before .digits .ensures .to), simp yes (c .before .before .digits .ensures .now))
+    (simp yes (c .before .before .digits .ensures .to), simp yes (c .before .before .digits .ensures .bytes))
 
 pub put-decimal-spec : {M : Type 1} → statement M
 put-decimal-spec =

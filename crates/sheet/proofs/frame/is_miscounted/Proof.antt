@@ -3,7 +3,7 @@
 use Prim.Native.Nat.{_-_}
 use mathlib.Core.Bool.{true}
 use mathlib.Core.Path.{_≡_, sym}
-use Rattle.sheet.specs.IndexLaws.{Unfound, any-found, search-begins, search-goes-on, search-ends}
+use Rattle.sheet.specs.IndexLaws.{Unfound, some-found, search-begins, search-goes-on, search-ends}
 use Rattle.sheet.specs.Grounds.{miscountedAt, miscounted}
 use borrow.Author.Needs.{needs}
 use Rattle.sheet.proofs.frame.is_miscounted.Statement.{statement}
@@ -44,7 +44,7 @@ returns-2 : tie.Need-returns-2 Inv-loop μ-loop
 unfolding miscounted miscountedAt
 returns-2 c =
     let bad : miscountedAt (c .before .before .before .before .before .before .before .before .before .args .bytes .now) (c .before .before .before .before .loop .i) ≡ true = simp (← c .before .before .byte-at2 .ensures, ← c .before .is-outside2 .ensures, c .if2 .taken) in
-    simp (← c .before .before .before .before .before .before .before .byte-at .ensures, ← c .before .before .before .before .before .before .is-outside .ensures, c .before .before .before .before .before .if1 .left) (sym (any-found _ _ _ (c .before .before .before .loop-test .taken) bad))
+    simp (← c .before .before .before .before .before .before .before .byte-at .ensures, ← c .before .before .before .before .before .before .is-outside .ensures, c .before .before .before .before .before .if1 .left) (sym (some-found _ _ _ (c .before .before .before .loop-test .taken) bad))
 
 add-i : tie.Need-add-i Inv-loop μ-loop
 add-i c = search needs

@@ -3,7 +3,7 @@
 use Prim.Native.Nat.{_-_}
 use mathlib.Core.Path.{sym, _∙_}
 use native.Mathlib.Omega.{arith}
-use Rattle.sheet.specs.IndexLaws.{Unfound, any-found, search-begins, search-goes-on, search-ends}
+use Rattle.sheet.specs.IndexLaws.{Unfound, some-found, search-begins, search-goes-on, search-ends}
 use Rattle.sheet.specs.Grounds.{readElsewhere, someMove}
 use Rattle.sheet.specs.Record.{moveOf}
 use Rattle.sheet.proofs.Readers.{read-elsewhere}
@@ -40,7 +40,7 @@ returns c =
     let least = c .before .before .before .before .before .before .pre .1 .least i h in
     let most = c .before .before .before .before .before .before .pre .1 .most i h in
     let found = sym (read-elsewhere (c .before .before .before .before .before .before .args .t1) _ _ (c .before .before .before .before .before .reads-of-others .ensures) (omega arith) (omega arith)) ∙ sym (c .before .is-among .ensures) ∙ c .if1 .taken in
-    sym (any-found _ _ i h found)
+    sym (some-found _ _ i h found)
 
 add-i : tie.Need-add-i Inv-loop μ-loop
 add-i c = search needs

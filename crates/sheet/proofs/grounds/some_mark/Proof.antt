@@ -2,7 +2,7 @@
 -- Assumes nothing.
 use Prim.Native.Nat.{_-_}
 use mathlib.Core.Path.{sym}
-use Rattle.sheet.specs.IndexLaws.{Unfound, any-found, search-begins, search-goes-on, search-ends}
+use Rattle.sheet.specs.IndexLaws.{Unfound, some-found, search-begins, search-goes-on, search-ends}
 use borrow.Author.Tests.{lt-ltb, le-ltb}
 use Rattle.sheet.specs.Grounds.{mismarked}
 use borrow.Author.Needs.{needs}
@@ -23,7 +23,7 @@ array-read-if1 c = search needs
 
 returns : tie.Need-returns Inv-loop μ-loop
 unfolding mismarked
-returns c = sym (any-found _ _ (c .before .before .loop .k) (c .before .loop-test .taken) (lt-ltb _ _ (c .if1 .taken)))
+returns c = sym (some-found _ _ (c .before .before .loop .k) (c .before .loop-test .taken) (lt-ltb _ _ (c .if1 .taken)))
 
 add-k : tie.Need-add-k Inv-loop μ-loop
 add-k c = search needs

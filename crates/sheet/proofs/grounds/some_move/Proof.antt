@@ -2,7 +2,7 @@
 -- Assumes nothing.
 use Prim.Native.Nat.{_-_}
 use mathlib.Core.Path.{sym, _∙_}
-use Rattle.sheet.specs.IndexLaws.{Unfound, any-found, search-begins, search-goes-on, search-ends}
+use Rattle.sheet.specs.IndexLaws.{Unfound, some-found, search-begins, search-goes-on, search-ends}
 use Rattle.sheet.specs.Grounds.{someMove}
 use Rattle.sheet.specs.Faults.{faultOf}
 use Rattle.sheet.specs.Record.{moveOf}
@@ -30,7 +30,7 @@ is-faulty-requires c κs = search needs
 
 returns : tie.Need-returns Inv-loop μ-loop
 unfolding someMove
-returns c = sym (any-found _ _ (c .before .before .before .before .loop .i) (c .before .before .before .loop-test .taken) (sym (c .before .is-faulty .ensures) ∙ c .if1 .taken))
+returns c = sym (some-found _ _ (c .before .before .before .before .loop .i) (c .before .before .before .loop-test .taken) (sym (c .before .is-faulty .ensures) ∙ c .if1 .taken))
 
 add-i : tie.Need-add-i Inv-loop μ-loop
 add-i c = search needs
