@@ -13,10 +13,10 @@ use lib.ListN.{length, getD, List·getD-eq-default}
 use Rattle.sheet.specs.Index.{someBelow, table}
 use Rattle.sheet.specs.IndexLaws.{none-at, found-some, and-true, or-neither, table-at, length-table}
 use Rattle.sheet.specs.Record.{byte, wordAt, sitesOf, countOf, countsOf, markOf, movesOf, movesAt, transitionAt, transitionFrom, transitionIn, transitionOf, partsBy, partsOf, statesOf, markIn, moveOf, noTransition, lengthOf, lengthFor}
-use Rattle.sheet.specs.Grounds.{misframed, outside, miscountedAt, miscounted, mismeasuredBy, mismarked, misplaced, unranged, readsNothing, shares, readElsewhere, leaves, undoes, someMove, goes, leads}
+use Rattle.sheet.specs.Grounds.{misframed, outside, miscountedAt, miscounted, mismeasuredBy, mismarked, misplaced, unranged, readsNothing, shares, readElsewhere, leaves, undoes, someMove}
 use Rattle.sheet.specs.GroundLaws.{Framed, Ordered, Passes}
 use Rattle.sheet.specs.Faults.{Sited}
-use Rattle.sheet.specs.Paths.{Cycle}
+use Rattle.sheet.specs.Paths.{goes, leads, Cycle}
 use Rattle.sheet.specs.Fine.{FineMove, Fine}
 use Rattle.sheet.specs.declared.Transition.{Transition}
 use Rattle.sheet.specs.declared.Sheet.{Sheet}

@@ -9,7 +9,8 @@ use native.Mathlib.Decide.{ℕ-discrete}
 use native.Mathlib.Omega.{arith}
 use borrow.Author.Tests.{eq-eqb, ne-eqb}
 use Rattle.sheet.specs.Record.{partsOf, noSheet}
-use Rattle.sheet.specs.Grounds.{misframed, misversioned, miscounted, mismeasured, unranged, unprompted, contended, undone, cyclic, frameGround, partsGround, groundOf, sheetOf}
+use Rattle.sheet.specs.Grounds.{misframed, misversioned, miscounted, mismeasured, unranged, unprompted, contended, undone, frameGround, partsGround, groundOf, sheetOf}
+use Rattle.sheet.specs.Paths.{cyclic}
 use Rattle.sheet.specs.declared.Sheet.{Sheet}
 
 -- no ground from 21 to 24 holds

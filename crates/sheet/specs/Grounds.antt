@@ -1,14 +1,16 @@
 -- Grounds 21 to 29 (01, "Grounds for refusal"), and what the reader answers: the first ground that holds, and the sheet.
 -- Grounds 21 to 24 are about the bytes, 25 to 29 about the parts. Each is tested over the whole sheet before the next.
+-- The last, 29, is in specs/Paths.antt: `cyclic`.
 -- Assumes nothing.
-use Prim.Native.Nat.{ℕ, zero, suc, _+_, _/_, _%_}
-use mathlib.Core.Bool.{Bool, true, cond, not, _&&_, _||_}
+use Prim.Native.Nat.{ℕ, _+_}
+use mathlib.Core.Bool.{Bool, cond, not, _&&_, _||_}
 use mathlib.Core.List.{List}
 use lib.Dec.{eqb, leb, ltb}
 use lib.Bits.{bitAnd}
 use lib.ListN.{length, getD}
 use Rattle.sheet.specs.Index.{someBelow}
 use Rattle.sheet.specs.Record.{byte, lengthOf, sitesOf, countsOf, movesAt, lengthFor, movesOf, partsOf, noSheet, statesOf, markIn, moveOf}
+use Rattle.sheet.specs.Paths.{cyclic}
 use Rattle.sheet.specs.declared.Transition.{Transition}
 use Rattle.sheet.specs.declared.Sheet.{Sheet}
 
@@ -100,24 +102,6 @@ undoes s t =
 -- 28: abort to non-abort, or commit to non-commit
 abbrev pub undone : Sheet → Bool
 undone s = someMove undoes s
-
--- the transition is the site's and goes from state q to state r
-unfoldable pub goes : Transition → ℕ → ℕ → ℕ → Bool
-goes t site q r = eqb (t .site) site && eqb (t .from) q && eqb (t .to) r
-
--- some transition of the site goes from state q to state r
-unfoldable pub leads : Sheet → ℕ → ℕ → ℕ → Bool
-leads s site q r = someBelow (λ (i : ℕ). goes (moveOf s i) site q r) (s .moves)
-
--- from state q a walk along the arrows f, among eight states, shows d states after q
-unfoldable pub walks : (ℕ → ℕ → Bool) → ℕ → ℕ → Bool
-walks f zero q = true
-walks f (suc d) q = someBelow (λ (r : ℕ). f q r && walks f d r) 8
-
--- 29: a cycle, found by walks: one from some state of some site shows eight states after it, and so shows a state twice.
--- What a cycle is says specs/Paths.antt, and specs/CycleLaws.antt that this finds it.
-unfoldable pub cyclic : Sheet → Bool
-cyclic s = someBelow (λ (k : ℕ). walks (leads s (k / 8 + 1)) 8 (k % 8)) 32
 
 -- The answer.
 
