@@ -1,14 +1,7 @@
 // The report on a protocol sheet, as text in lent bytes (01, "The sheet program reads a sheet").
-ghost use mathlib.Core.Path.{_≡_};
-ghost use Prim.Native.Nat.{_+_, _≤_, _<_};
-ghost use lib.ListN.{length};
-ghost use Rattle.text.specs.Text.{Put};
 ghost use Rattle.report.specs.Report.{Reported};
 
 mod line;
-
-use judge::Verdict;
-use sheet::Sheet;
 
 // The longest text: see specs/Report.antt.
 const LONGEST: usize = 3722;

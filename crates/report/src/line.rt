@@ -1,5 +1,4 @@
 // The lines of the report, each put from a place on; every function answers where its text ends.
-ghost use mathlib.Core.Path.{_≡_};
 ghost use mathlib.Core.Bool.{cond};
 ghost use mathlib.Core.List.{[]};
 ghost use Prim.Native.Nat.{_+_, _%_, _≤_, _<_};
