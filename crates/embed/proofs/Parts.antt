@@ -6,25 +6,18 @@ use mathlib.Core.Path.{_≡_, refl, sym, ap, _∙_}
 use native.Mathlib.Nat.{le-of-eq, le-of-lt, le-trans, add-comm, mul-zero, mul-suc, mul-le-mul-left, add-sub-of-le}
 use native.Mathlib.Numerals.{add-one}
 use native.Mathlib.Omega.{arith}
-use lib.ListN.{length, getD, set, take, drop, length-append, length-drop, length-map, drop-of-length-le}
+use lib.ListN.{length, getD, set, take, drop, length-append, length-drop, length-map}
 use lib.Seq.{take-all, take-at, drop-at, drop-drop, drop-cons, take-suc, set-at, append-snoc, length-take-le}
 use borrow.Author.Tests.{le-leb}
 use borrow.Rule.Slice.PartMut.{putMid}
 use Rattle.text.specs.Text.{fits, spliced}
+pub use Rattle.journal.specs.Tails.{tail-is, tail-put}
 
 -- an array of structs in a struct has its length
 pub length-mapped : (A B : Type 0) (f : A → B) (l : List A) (n : ℕ) → length (map f l) ≡ n → length l ≡ n
 length-mapped A B f l n e = sym (length-map l f) ∙ e
 
 -- ---- a part from a place on, lent and back
-
-pub tail-is : (l : List ℕ) (at : ℕ) → take (length l - at) (drop at l) ≡ drop at l
-tail-is l at = take-all (length l - at) (drop at l) (le-of-eq (length-drop at l))
-
-pub tail-put : (l ys : List ℕ) (at : ℕ) → putMid at (length l - at) l ys ≡ take at l ++ ys
-tail-put l ys at =
-    ap (λ (z : List ℕ). take at l ++ (ys ++ z)) (drop-of-length-le (drop at l) (le-of-eq (length-drop at l)))
-    ∙ ap (λ (z : List ℕ). take at l ++ z) (append-nil ys)
 
 -- a part at the seam of p and q, of which ys take the place of the first k
 pub part-put : (p q ys : List ℕ) (at k : ℕ) (l last : List ℕ) → length p ≡ at → l ≡ p ++ q → last ≡ ys ++ drop k (take (length l - at) (drop at l))

@@ -1,7 +1,7 @@
 -- The bytes of a site and of a run, read and written again, are the same bytes.
 -- Assumes nothing.
 use Prim.Native.Nat.{ℕ, zero, suc, _+_, _-_, _*_, _≤_, _<_}
-use mathlib.Core.Bool.{Bool, true, false, _&&_, false≢true}
+use mathlib.Core.Bool.{true}
 use mathlib.Core.List.{List, [], _∷_, _++_, map, flatMap, append-assoc}
 use mathlib.Core.Path.{_≡_, refl, sym, ap, _∙_}
 use native.Mathlib.Nat.{le-of-eq}
@@ -10,19 +10,12 @@ use lib.Dec.{eqb, leb}
 use lib.ListN.{length, getD, take, drop, take-append-drop, length-drop}
 use lib.Seq.{drop-cons, drop-drop, take-all}
 use borrow.Author.Tests.{eqb-true, leb-true}
+use Rattle.sets.specs.Truths.{and-l, and-r}
 use Rattle.run.specs.Sound.{every}
 use Rattle.run.specs.SoundLaws.{every-at}
 use Rattle.embed.specs.Bytes.{stateByte, stateFrom, siteBytes, siteFrom}
 use Rattle.embed.specs.SiteCall.{isRecord}
 use Rattle.embed.specs.RunCalls.{runBytes, runFrom, isRun}
-
-and-first : (a b : Bool) → (a && b) ≡ true → a ≡ true
-and-first true b h = refl
-and-first false b h = absurd (false≢true h)
-
-and-second : (a b : Bool) → (a && b) ≡ true → b ≡ true
-and-second true b h = h
-and-second false b h = absurd (false≢true h)
 
 -- ---- a site
 
@@ -64,12 +57,12 @@ site-part l at h s =
 
 pub record-length : (l : List ℕ) → isRecord l ≡ true → length l ≡ 8
 unfolding isRecord
-record-length l h = eqb-true (length l) 8 (and-first (eqb (length l) 8) (leb (getD l 2 0) 4) h)
+record-length l h = eqb-true (length l) 8 (and-l (eqb (length l) 8) (leb (getD l 2 0) 4) h)
 
 pub site-again : (l : List ℕ) → isRecord l ≡ true → siteBytes (siteFrom l 0) ≡ l
 unfolding isRecord
 site-again l h =
-    site-part l 0 (le-of-eq (sym (record-length l h))) (and-second (eqb (length l) 8) (leb (getD l 2 0) 4) h)
+    site-part l 0 (le-of-eq (sym (record-length l h))) (and-r (eqb (length l) 8) (leb (getD l 2 0) 4) h)
     ∙ take-all 8 l (le-of-eq (record-length l h))
 
 -- ---- a run
@@ -114,7 +107,7 @@ module _ (l : List ℕ) where
 
   pub run-length : isRun l ≡ true → length l ≡ 138
   unfolding isRun
-  run-length h = eqb-true (length l) 138 (and-first (eqb (length l) 138) (every 8 (λ (i : ℕ). leb (getD l (8 * i + 4) 0) 4)) h)
+  run-length h = eqb-true (length l) 138 (and-l (eqb (length l) 138) (every 8 (λ (i : ℕ). leb (getD l (8 * i + 4) 0) 4)) h)
 
   pub run-again : isRun l ≡ true → runBytes (runFrom l) ≡ l
   unfolding isRun runBytes runFrom Known
@@ -126,7 +119,7 @@ module _ (l : List ℕ) where
       ∙ sym (drop-cons l 0 0 (omega arith))
     where
       known : (i : ℕ) → i < 8 → leb (getD l (8 * i + 4) 0) 4 ≡ true
-      known = every-at 8 (λ (i : ℕ). leb (getD l (8 * i + 4) 0) 4) (and-second (eqb (length l) 138) (every 8 (λ (i : ℕ). leb (getD l (8 * i + 4) 0) 4)) h)
+      known = every-at 8 (λ (i : ℕ). leb (getD l (8 * i + 4) 0) 4) (and-r (eqb (length l) 138) (every 8 (λ (i : ℕ). leb (getD l (8 * i + 4) 0) 4)) h)
 
       tail : length (drop 66 l) ≡ 72
       tail = length-drop 66 l ∙ ap (λ (k : ℕ). k - 66) (run-length h)

@@ -2,7 +2,7 @@
 -- Assumes nothing.
 use Prim.Native.Nat.{ℕ, zero, suc, _+_, _-_, _*_, _/_, _%_, _≤_, _<_}
 use mathlib.Core.Bool.{Bool, true, false, cond, not}
-use mathlib.Core.List.{List, [], _∷_, _++_}
+use mathlib.Core.List.{List, [], _∷_, _++_, flatten}
 use mathlib.Core.Path.{_≡_, refl, ap, _∙_}
 use mathlib.Core.Logic.{_≢_}
 use native.Mathlib.Omega.{arith}
@@ -24,17 +24,17 @@ use Rattle.judge.specs.Facts.Breaks.{breaks-1, breaks-2}
 use Rattle.judge.specs.Facts.Obeying.{start, more, same}
 use Rattle.judge.specs.declared.Local.{Local}
 use Rattle.judge.specs.declared.Verdict.{Verdict}
-use Rattle.report.specs.Report.{joined, upTo, nameOf, markWord, yesWord, decisionWord, memberOf, memberIn, membersOf, setWord, lineOf, lineIn, linesOf, headLine, blockingLine, rulingLine, toleranceLine, refusedLine, acceptedText}
+use Rattle.report.specs.Report.{upTo, nameOf, markWord, yesWord, decisionWord, memberOf, memberIn, membersOf, setWord, lineOf, lineIn, linesOf, headLine, blockingLine, rulingLine, toleranceLine, refusedLine, acceptedText}
 
 -- ---- pieces
 
 -- a piece more
-join-more : (p : List ℕ) (ps : List (List ℕ)) → length (joined (p ∷ ps)) ≡ length p + length (joined ps)
-unfolding joined
-join-more p ps = length-append p (joined ps)
+join-more : (p : List ℕ) (ps : List (List ℕ)) → length (flatten (p ∷ ps)) ≡ length p + length (flatten ps)
+unfolding flatten
+join-more p ps = length-append p (flatten ps)
 
-join-none : length (joined []) ≡ 0
-unfolding joined
+join-none : length (flatten {A = ℕ} []) ≡ 0
+unfolding flatten
 join-none = refl
 
 digit : (n : ℕ) → n < 10 → length (decimal n) ≤ 1

@@ -2,7 +2,7 @@
 -- Assumes nothing.
 use Prim.Native.Nat.{ℕ, zero, suc, _+_, _-_, _/_, _%_, _≤_, _<_}
 use mathlib.Core.Bool.{Bool, true, false}
-use mathlib.Core.List.{List, [], _∷_, _++_, append-assoc, append-nil}
+use mathlib.Core.List.{List, [], _∷_, _++_, append-assoc, append-nil, flatten}
 use mathlib.Core.Path.{_≡_, refl, sym, ap, subst, subst⁻¹, _∙_}
 use native.Mathlib.Omega.{arith}
 use native.Mathlib.Nat.{add-zero}
@@ -15,7 +15,7 @@ use Rattle.text.specs.Text.{Put, reached, spliced}
 use Rattle.text.specs.TextLaws.{put-fits, put-then, put-length}
 use Rattle.text.specs.Said.{said}
 use Rattle.text.specs.DecimalLaws.{decimal-one}
-use Rattle.report.specs.Report.{joined, upTo, nameOf, memberOf}
+use Rattle.report.specs.Report.{upTo, nameOf, memberOf}
 
 -- nothing is put
 pub put-none : (text : List ℕ) (at : ℕ) → at ≤ length text → Put text at [] text at
@@ -30,33 +30,33 @@ put-none text at h =
 pub record Going (text : List ℕ) (at : ℕ) (x : List ℕ) (ps : List (List ℕ)) (last : List ℕ) (r : ℕ) : Type 0 where
   pub done : List ℕ
   pub put : Put text at done last r
-  pub room : r + length (joined ps) ≤ length last
-  pub is : done ++ joined ps ≡ x
+  pub room : r + length (flatten ps) ≤ length last
+  pub is : done ++ flatten ps ≡ x
 
-pub begin : (text : List ℕ) (at : ℕ) (ps : List (List ℕ)) → at + length (joined ps) ≤ length text → Going text at (joined ps) ps text at
+pub begin : (text : List ℕ) (at : ℕ) (ps : List (List ℕ)) → at + length (flatten ps) ≤ length text → Going text at (flatten ps) ps text at
 begin text at ps h = record { done = []; put = put-none text at (omega arith); room = h; is = refl }
 
 module _ {text x last : List ℕ} {at r : ℕ} {b : List ℕ} {ps : List (List ℕ)} (g : Going text at x (b ∷ ps) last r) where
   -- the next piece fits
   pub fits-next : r + length b ≤ length last
-  unfolding joined
-  fits-next = omega (arith, g .room, length-append b (joined ps))
+  unfolding flatten
+  fits-next = omega (arith, g .room, length-append b (flatten ps))
 
   pub next : {v : List ℕ} {q : ℕ} → Put last r b v q → Going text at x ps v q
-  unfolding joined
+  unfolding flatten
   next {v} {q} p =
       record {
         done = g .done ++ b;
         put = put-then (g .put) p;
-        room = omega (arith, g .room, length-append b (joined ps), p .to, put-length p);
-        is = append-assoc (g .done) b (joined ps) ∙ g .is;
+        room = omega (arith, g .room, length-append b (flatten ps), p .to, put-length p);
+        is = append-assoc (g .done) b (flatten ps) ∙ g .is;
       }
 
   pub next-by : {v : List ℕ} {q : ℕ} → (q ≡ reached last r b) × (v ≡ spliced last r b) → Going text at x ps v q
   next-by {v} {q} e = next (put-fits last r b fits-next e)
 
 pub ended : {text x last : List ℕ} {at r : ℕ} → Going text at x [] last r → Put text at x last r
-unfolding joined
+unfolding flatten
 ended {text} {x} {last} {at} {r} g = subst (λ (d : List ℕ). Put text at d last r) (sym (append-nil (g .done)) ∙ g .is) (g .put)
 
 -- a word that is the one meant
@@ -67,7 +67,7 @@ put-word text at {part} {other} {last} {r} e h p =
 
 -- a name is a digit, a dot and a digit
 pub name-is : (p : ℕ) → p < 32 → (49 + p / 8) ∷ 46 ∷ (48 + p % 8) ∷ [] ≡ nameOf p
-unfolding nameOf joined
+unfolding nameOf flatten
 name-is p h =
     let first : 49 + p / 8 ≡ 48 + (p / 8 + 1) = omega arith in
     ap (λ (d : ℕ). d ∷ 46 ∷ (48 + p % 8) ∷ []) first
@@ -128,17 +128,17 @@ module _ (f : ℕ → List ℕ → List ℕ) where
 -- ---- a member, with or without a comma
 
 later-room : (text : List ℕ) (at q : ℕ) (b : Bool) → b ≡ true → at + length (memberOf b q) ≤ length text
-    → at + length (joined (said "," ∷ nameOf q ∷ [])) ≤ length text
+    → at + length (flatten (said "," ∷ nameOf q ∷ [])) ≤ length text
 unfolding memberOf
 later-room text at q b e h = simp e at h
 
 -- after the comma, the name fits
 pub later-going : {text last : List ℕ} {at r : ℕ} (q : ℕ) (b : Bool) → b ≡ true → at + length (memberOf b q) ≤ length text
     → (r ≡ reached text at (said ",")) × (last ≡ spliced text at (said ","))
-    → Going text at (joined (said "," ∷ nameOf q ∷ [])) (nameOf q ∷ []) last r
+    → Going text at (flatten (said "," ∷ nameOf q ∷ [])) (nameOf q ∷ []) last r
 later-going {text} {last} {at} {r} q b e h p = next-by (begin text at (said "," ∷ nameOf q ∷ []) (later-room text at q b e h)) p
 
-pub member-later : {text last : List ℕ} {at r : ℕ} (q : ℕ) (b : Bool) → b ≡ true → Put text at (joined (said "," ∷ nameOf q ∷ [])) last r → Put text at (memberOf b q) last r
+pub member-later : {text last : List ℕ} {at r : ℕ} (q : ℕ) (b : Bool) → b ≡ true → Put text at (flatten (said "," ∷ nameOf q ∷ [])) last r → Put text at (memberOf b q) last r
 unfolding memberOf
 member-later q b e p = simp e p
 

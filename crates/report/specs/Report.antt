@@ -2,7 +2,7 @@
 -- Assumes nothing.
 use Prim.Native.Nat.{ℕ, zero, suc, _+_, _/_, _%_, _≤_, _<_}
 use mathlib.Core.Bool.{Bool, cond}
-use mathlib.Core.List.{List, [], _∷_, _++_}
+use mathlib.Core.List.{List, [], _∷_, _++_, flatten}
 use mathlib.Core.Path.{_≡_}
 use lib.Dec.{eqb, ltb}
 use lib.ListN.{length, getD, drop}
@@ -16,11 +16,6 @@ use Rattle.judge.specs.Outcome.{Outcome}
 use Rattle.judge.specs.declared.Local.{Local}
 use Rattle.judge.specs.declared.Verdict.{Verdict}
 
--- pieces one after another
-unfoldable pub joined : List (List ℕ) → List ℕ
-joined [] = []
-joined (p ∷ ps) = p ++ joined ps
-
 -- a piece for each number below k, made with the text before it at hand
 unfoldable pub upTo : (ℕ → List ℕ → List ℕ) → ℕ → List ℕ
 upTo f zero = []
@@ -30,7 +25,7 @@ upTo f (suc q) = upTo f q ++ f q (upTo f q)
 
 -- site.state
 unfoldable pub nameOf : ℕ → List ℕ
-nameOf p = joined (decimal (p / 8 + 1) ∷ said "." ∷ decimal (p % 8) ∷ [])
+nameOf p = flatten (decimal (p / 8 + 1) ∷ said "." ∷ decimal (p % 8) ∷ [])
 
 -- "mark (w, a, c)": 0 working, 1 abort, 2 commit, with the spaces around it
 unfoldable pub markWord : ℕ → List ℕ
@@ -46,7 +41,7 @@ decisionWord d = cond (eqb d 0) (said "-\n") (cond (eqb d 1) (said "abort\n") (c
 
 -- a member of a set, after a comma where others stand before it
 unfoldable pub memberOf : Bool → ℕ → List ℕ
-memberOf later q = cond later (joined (said "," ∷ nameOf q ∷ [])) (nameOf q)
+memberOf later q = cond later (flatten (said "," ∷ nameOf q ∷ [])) (nameOf q)
 
 -- q, where it is a member
 unfoldable pub memberIn : ℕ → ℕ → Bool → List ℕ
@@ -63,7 +58,7 @@ setWord m = cond (eqb m 0) (said "-") (membersOf m)
 -- the line of the local state p with that mark, by what is said of it
 unfoldable pub lineOf : ℕ → ℕ → Local → List ℕ
 lineOf p mark l =
-    joined
+    flatten
     (nameOf p ∷ markWord mark ∷ yesWord (l .reached) ∷ setWord (l .concurrent) ∷ said " " ∷ yesWord (l .committable) ∷ decisionWord (l .decision) ∷ [])
 
 -- the line of p, where the sheet has that state
@@ -78,12 +73,12 @@ linesOf s l = upTo (λ p before. lineIn s l p) 32
 
 -- "First line: sites, reachable global states"
 unfoldable pub headLine : ℕ → ℕ → List ℕ
-headLine sites states = joined (said "sheet " ∷ decimal sites ∷ said " sites " ∷ decimal states ∷ said " states\n" ∷ [])
+headLine sites states = flatten (said "sheet " ∷ decimal sites ∷ said " sites " ∷ decimal states ∷ said " states\n" ∷ [])
 
 -- "A blocking verdict shows the lowest site, state, condition broken, in that order"
 unfoldable pub blockingLine : ℕ → ℕ → ℕ → List ℕ
 blockingLine site state condition =
-    joined (said "verdict blocking at " ∷ decimal site ∷ said "." ∷ decimal state ∷ said " condition " ∷ decimal condition ∷ said "\n" ∷ [])
+    flatten (said "verdict blocking at " ∷ decimal site ∷ said "." ∷ decimal state ∷ said " condition " ∷ decimal condition ∷ said "\n" ∷ [])
 
 -- "A nonblocking sheet prints `verdict nonblocking`"; any other, what blocks it
 unfoldable pub rulingLine : Verdict → List ℕ
@@ -91,18 +86,18 @@ rulingLine v = cond (v .nonblocking) (said "verdict nonblocking\n") (blockingLin
 
 -- the last line: the verdict's tolerance
 unfoldable pub toleranceLine : ℕ → List ℕ
-toleranceLine t = joined (said "tolerance " ∷ decimal t ∷ said "\n" ∷ [])
+toleranceLine t = flatten (said "tolerance " ∷ decimal t ∷ said "\n" ∷ [])
 
 -- "`refused N`", N the ground
 unfoldable pub refusedLine : ℕ → List ℕ
-refusedLine ground = joined (said "refused " ∷ decimal ground ∷ said "\n" ∷ [])
+refusedLine ground = flatten (said "refused " ∷ decimal ground ∷ said "\n" ∷ [])
 
 -- ---- the whole
 
 -- an accepted sheet: the first line, a line for each state, the verdict, the tolerance
 unfoldable pub acceptedText : Sheet → Verdict → List ℕ
 acceptedText s v =
-    joined (headLine (v .sites) (v .states) ∷ linesOf s (v .locals) ∷ rulingLine v ∷ toleranceLine (v .tolerance) ∷ [])
+    flatten (headLine (v .sites) (v .states) ∷ linesOf s (v .locals) ∷ rulingLine v ∷ toleranceLine (v .tolerance) ∷ [])
 
 -- the text for any verdict: "a refused one `refused N` only"
 unfoldable pub textOf : Sheet → Verdict → List ℕ

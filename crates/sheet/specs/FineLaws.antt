@@ -11,7 +11,7 @@ use lib.Bits.{bitAnd}
 use lib.Dec.{eqb, leb, ltb}
 use lib.ListN.{length, getD, List·getD-eq-default}
 use Rattle.sheet.specs.Index.{someBelow, table}
-use Rattle.sheet.specs.IndexLaws.{none-at, found-some, and-true, or-neither, table-at, length-table}
+use Rattle.sheet.specs.IndexLaws.{none-at, found-some, and-both, or-neither, table-at, length-table}
 use Rattle.sheet.specs.Record.{byte, wordAt, sitesOf, countOf, countsOf, markOf, movesOf, movesAt, transitionAt, transitionFrom, transitionIn, transitionOf, partsBy, partsOf, statesOf, markIn, moveOf, noTransition, lengthOf, lengthFor}
 use Rattle.sheet.specs.Grounds.{misframed, outside, miscountedAt, miscounted, mismeasuredBy, mismarked, misplaced, unranged, readsNothing, shares, readElsewhere, leaves, undoes, someMove}
 use Rattle.sheet.specs.GroundLaws.{Framed, Ordered, Passes}
@@ -214,8 +214,8 @@ module _ (l : List ℕ) (p : Passes l) where
   leads-low site q r e =
       let f = found-some (λ i. goes (moveOf (partsOf l) i) site q r) (partsOf l .moves) e in
       let t = moveOf (partsOf l) (f .place) in
-      let a = and-true _ _ (f .passes) in
-      let b = and-true _ _ (a .0) in
+      let a = and-both _ _ (f .passes) in
+      let b = and-both _ _ (a .0) in
       let at : t .site ≡ site = eqb-true _ _ (b .0) in
       let from : t .from ≡ q = eqb-true _ _ (b .1) in
       let to : t .to ≡ r = eqb-true _ _ (a .1) in

@@ -16,9 +16,9 @@ or-left true b e = refl
 or-left false b e = absurd (false≢true e)
 
 -- both halves of what holds, and of what does not
-pub and-true : (a b : Bool) → (a && b) ≡ true → (a ≡ true) × (b ≡ true)
-and-true true b e = (refl, e)
-and-true false b e = absurd (false≢true e)
+pub and-both : (a b : Bool) → (a && b) ≡ true → (a ≡ true) × (b ≡ true)
+and-both true b e = (refl, e)
+and-both false b e = absurd (false≢true e)
 
 pub or-neither : (a b : Bool) → (a || b) ≡ false → (a ≡ false) × (b ≡ false)
 or-neither true b e = absurd (false≢true (sym e))
