@@ -10,7 +10,7 @@ use borrow.Author.Tests.{lt-ltb, le-ltb}
 use lib.Dec.{ltb}
 use lib.ListN.{getD}
 use Rattle.sheet.specs.IndexLaws.{sum-none, sum-more}
-use Rattle.sheet.specs.Record.{byte, statesBefore, markOf}
+use Rattle.sheet.specs.Record.{byte, statesBefore, markRead}
 
 -- the states that stand at the places before k
 abbrev pub passed : List ℕ → ℕ → ℕ
@@ -59,11 +59,11 @@ module _ (cs : List ℕ) (k : ℕ) where
 
 -- the mark that stands after those passed is that of place k
 pub mark-is : (l : List ℕ) (n : ℕ) (cs : List ℕ) (k at : ℕ) → at ≡ 4 + n + passed cs k
-    → cond (ltb (k % 8) (getD cs (k / 8) 0)) (byte l at) 0 ≡ markOf l n cs k
-unfolding markOf
+    → cond (ltb (k % 8) (getD cs (k / 8) 0)) (byte l at) 0 ≡ markRead l n cs k
+unfolding markRead
 mark-is l n cs k at e = go (decLt (k % 8) (getD cs (k / 8) 0))
   where
-    go : Dec (k % 8 < getD cs (k / 8) 0) → cond (ltb (k % 8) (getD cs (k / 8) 0)) (byte l at) 0 ≡ markOf l n cs k
+    go : Dec (k % 8 < getD cs (k / 8) 0) → cond (ltb (k % 8) (getD cs (k / 8) 0)) (byte l at) 0 ≡ markRead l n cs k
     go (yes h) =
         let p : at ≡ 4 + n + statesBefore cs (k / 8) + k % 8 = omega (arith, e) in
         simp (lt-ltb _ _ h) (ap (byte l) p)

@@ -12,7 +12,7 @@ use lib.Dec.{eqb, leb, ltb}
 use lib.ListN.{length, getD, List·getD-eq-default}
 use Rattle.sheet.specs.Index.{someBelow, table}
 use Rattle.sheet.specs.IndexLaws.{none-at, found-some, and-both, or-neither, table-at, length-table}
-use Rattle.sheet.specs.Record.{byte, wordAt, sitesOf, countOf, countsOf, markOf, movesOf, movesAt, transitionAt, transitionFrom, transitionIn, transitionOf, partsBy, partsOf, statesOf, markIn, moveOf, noTransition, lengthOf, lengthFor}
+use Rattle.sheet.specs.Record.{byte, wordAt, sitesOf, countOf, countsOf, markRead, movesOf, movesAt, transitionAt, transitionFrom, transitionIn, transitionOf, partsBy, partsOf, statesOf, markIn, moveOf, noTransition, lengthOf, lengthFor}
 use Rattle.sheet.specs.Grounds.{misframed, outside, miscountedAt, miscounted, mismeasuredBy, mismarked, misplaced, unranged, readsNothing, shares, readElsewhere, leaves, undoes, someMove}
 use Rattle.sheet.specs.GroundLaws.{Framed, Ordered, Passes}
 use Rattle.sheet.specs.Faults.{Sited}
@@ -114,15 +114,15 @@ word-small l small at = omega (arith, small at, small (at + 1), small (at + 2), 
 mark-past : (l : List ℕ) (k : ℕ) → 32 ≤ k → getD (partsOf l .marks) k 0 ≡ 0
 unfolding partsBy
 mark-past l k h =
-    let f = markOf l (sitesOf l) (countsOf l) in
+    let f = markRead l (sitesOf l) (countsOf l) in
     List·getD-eq-default (table f 32) 0 {n = k} (omega (arith, length-table f 32))
 
 mark-none : (l : List ℕ) (k : ℕ) → getD (countsOf l) (k / 8) 0 ≤ k % 8 → getD (partsOf l .marks) k 0 ≡ 0
-unfolding partsBy markOf
+unfolding partsBy markRead
 mark-none l k h = go (decLt k 32)
   where
     go : Dec (k < 32) → getD (partsOf l .marks) k 0 ≡ 0
-    go (yes b) = table-at (markOf l (sitesOf l) (countsOf l)) 32 k 0 b ∙ simp (le-ltb _ _ h)
+    go (yes b) = table-at (markRead l (sitesOf l) (countsOf l)) 32 k 0 b ∙ simp (le-ltb _ _ h)
     go (no b) = mark-past l k (omega arith)
 
 move-none : (l : List ℕ) (k : ℕ) → movesOf l (sitesOf l) (countsOf l) ≤ k → moveOf (partsOf l) k ≡ noTransition

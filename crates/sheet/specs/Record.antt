@@ -63,8 +63,8 @@ lengthFor n cs t = 2 + n + statesBefore cs 4 + 4 + 1 + 12 * t
 -- What stands there.
 
 -- the mark at place k, that of state k % 8 of the site at place k / 8; 0 where there is no such state
-unfoldable pub markOf : List ℕ → ℕ → List ℕ → ℕ → ℕ
-markOf l n cs k = cond (ltb (k % 8) (getD cs (k / 8) 0)) (byte l (markAt n cs (k / 8) (k % 8))) 0
+unfoldable pub markRead : List ℕ → ℕ → List ℕ → ℕ → ℕ
+markRead l n cs k = cond (ltb (k % 8) (getD cs (k / 8) 0)) (byte l (markAt n cs (k / 8) (k % 8))) 0
 
 -- the number of transitions
 abbrev pub movesOf : List ℕ → ℕ → List ℕ → ℕ
@@ -100,7 +100,7 @@ partsBy l n cs =
     record {
       sites = n;
       counts = cs;
-      marks = table (markOf l n cs) 32;
+      marks = table (markRead l n cs) 32;
       first = wordAt l (firstAt n cs);
       moves = movesOf l n cs;
       transitions = table (transitionOf l n cs) 64;

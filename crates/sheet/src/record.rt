@@ -4,7 +4,7 @@ ghost use mathlib.Core.Bool.{cond};
 ghost use Prim.Native.Nat.{ℕ, _+_, _*_, _^_, _≤_, _<_};
 ghost use lib.ListN.{length, getD};
 ghost use Rattle.sheet.specs.Index.{table};
-ghost use Rattle.sheet.specs.Record.{byte, wordAt, sitesOf, countOf, countsOf, statesBefore, movesAt, markOf, transitionFrom, transitionIn, partsOf};
+ghost use Rattle.sheet.specs.Record.{byte, wordAt, sitesOf, countOf, countsOf, statesBefore, movesAt, markRead, transitionFrom, transitionIn, partsOf};
 ghost use Rattle.sheet.specs.Grounds.{frameGround};
 use super::Sheet;
 use super::Transition;
@@ -96,7 +96,7 @@ pub(crate) fn moves_at(bytes: &[u8]) -> usize
 // The marks at the 32 places. In the record they follow each other, site by site.
 fn marks_of(bytes: &[u8], sites: u8, counts: [u8; 4]) -> [u8; 32]
     requires { ⌜ ((i : ℕ) → getD counts i 0 ≤ 8) ⌝ }
-    ensures { λ r. ⌜ r ≡ table (markOf (now (bytes .entry)) sites counts) 32 ⌝ }
+    ensures { λ r. ⌜ r ≡ table (markRead (now (bytes .entry)) sites counts) 32 ⌝ }
 {
     let mut marks = [0u8; 32];
     let mut at = 4 + sites as usize;

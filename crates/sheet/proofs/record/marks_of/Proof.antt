@@ -6,14 +6,14 @@ use native.Mathlib.Omega.{arith}
 use lib.Dec.{ltb}
 use lib.ListN.{getD}
 use Rattle.sheet.specs.IndexLaws.{Filled, filling-begins, filling-goes-on, filling-ends}
-use Rattle.sheet.specs.Record.{markOf}
+use Rattle.sheet.specs.Record.{markRead}
 use Rattle.sheet.proofs.Marks.{passed, passed-none, passed-more, one-at-most, mark-is}
 use borrow.Author.Needs.{needs}
 use Rattle.sheet.proofs.record.marks_of.Statement.{statement}
 use Rattle.sheet.proofs.record.marks_of.Tie as tie
 
 abbrev Inv-loop : tie.InvT-loop
-Inv-loop bytes sites counts marks₀ at₀ k₀ marks at k = Filled (markOf bytes sites counts) 0 32 k marks × (at ≡ 4 + sites + passed counts k) × (at ≤ 259 + k)
+Inv-loop bytes sites counts marks₀ at₀ k₀ marks at k = Filled (markRead bytes sites counts) 0 32 k marks × (at ≡ 4 + sites + passed counts k) × (at ≤ 259 + k)
 
 abbrev μ-loop : tie.MeasureT-loop
 μ-loop bytes sites counts marks₀ at₀ k₀ marks at k = 32 - k
