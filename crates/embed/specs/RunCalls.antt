@@ -52,6 +52,7 @@ noEvent g run room = leavesBoth g run (2 ∷ 0 ∷ 0 ∷ drop 3 room)
 abbrev pub ranLeaves : Ran → List ℕ → List ℕ → LeftBoth
 ranLeaves a run room = called (a .outcome) run (runBytes (a .run)) (ranBytes a ++ drop 3 room)
 
+-- what the fields come to: the event that they tell happens to the run, or their ground is the refusal
 abbrev pub happening : Made → List ℕ → List ℕ → LeftBoth
 happening (Good e) run room = ranLeaves (eventOf (runFrom run) e) run room
 happening (Bad g) run room = noEvent g run room

@@ -39,7 +39,8 @@ module _ (n : ℕ) (least : 2 ≤ n) (most : n ≤ 8) where
     pub all-voted : (i : ℕ) → IsSite n i → stateOf (reached n es) i ≡ C → (j : ℕ) → IsSite n j → Voted (freshOf n .run) es j
     all-voted = vote n least most es
 
-    -- When only stops could still be accepted, every site not stopped has decided.
+    -- When only stops could still be accepted, every site not stopped has decided. A stop inside a step is accepted exactly when that step is
+    -- (`cut-accepted` in run's RunLaws), so it is no further case.
     pub only-stops-left : ((e : Event) → Accepts (reached n es) e → (s : ℕ) × (e ≡ Stop s))
         → (i : ℕ) → IsSite n i → hasStopped (reached n es) i ≡ false → (stateOf (reached n es) i ≡ C) ⊎ (stateOf (reached n es) i ≡ A)
     only-stops-left = decide n least most es

@@ -1,2 +1,3 @@
+-- 01's starred rows as one list, and that all of them hold.
 pub mod Rows
 pub mod RowsHold

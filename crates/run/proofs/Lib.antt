@@ -1,1 +1,2 @@
+-- What more than one function's proof uses.
 pub mod Events

@@ -19,6 +19,7 @@ use Rattle.run.specs.declared.Ran.{Ran}
 use Rattle.run.specs.Run.{siteAt, outstanding, hasStopped, knows, withRecord, takenOut, sentBy, stoppedAt, freshRun}
 use Rattle.run.specs.Sound.{soundRun}
 
+-- "zero counts": no message written, nobody awaited
 abbrev pub none : Counts
 none = record { written = 0; awaited = 0 }
 
@@ -32,6 +33,7 @@ takenRun r m = record { run = r; outcome = Taken; counts = record { written = m;
 
 -- ---- fresh
 
+-- "fresh n not 2..8" is ground 1, and "A refused fresh is the same with n 0 in run and records"
 unfoldable pub freshOf : ℕ → Ran
 freshOf n = cond (leb 2 n && leb n 8) (record { run = freshRun n; outcome = Taken; counts = none }) (refusedRun (freshRun 0) 1)
 
@@ -92,6 +94,7 @@ unfoldable pub stopped : Run → ℕ → Ran
 stopped r s =
     cond (isActor r s) (cond (hasStopped r s) (refusedRun r 3) (record { run = stoppedAt r s; outcome = Taken; counts = none })) (refusedRun r 2)
 
+-- an event, with grounds 2 to 6: a whole step, a stop, or "a stop during any of the first five"
 abbrev pub happened : Run → Event → Ran
 happened r (Act s t) = grounded r s t (ranStep (stepOf (siteAt r s) t .outcome) r s t (stepOf (siteAt r s) t))
 happened r (Stop s) = stopped r s

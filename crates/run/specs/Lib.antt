@@ -1,3 +1,4 @@
+-- A run, its soundness and its events in 01's order; from Reply on, how the code asks for them and what follows from them.
 pub mod Run
 pub mod Sound
 pub mod Event

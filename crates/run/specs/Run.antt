@@ -21,7 +21,8 @@ noSite = record { n = 0; number = 0; state = Q; leader = 0; known = 0; yes = 0; 
 abbrev pub siteAt : Run → ℕ → Site
 siteAt r i = getD (r .sites) (i - 1) noSite
 
--- a kind of message has one of nine rows, of which 01 uses eight
+-- a kind of message has one of nine rows, of which 01 uses eight: the ninth is kept so that one more kind of message leaves the
+-- 138 bytes of a run as they are
 unfoldable pub isKind : ℕ → Bool
 isKind k = leb 1 k && leb k 9
 
@@ -55,7 +56,8 @@ hasStopped r i = has (r .stopped) i
 
 -- ---- what an event may do to a run
 
--- another record for site s
+-- another record for site s. Only sites of 1 to n act (ground 2), and no other record changes (`frame` in RunLaws): so places above n
+-- are "handed back as given"
 abbrev pub withRecord : Run → ℕ → Site → Run
 withRecord r s x = record { n = r .n; stopped = r .stopped; sites = set (r .sites) (s - 1) x; net = r .net }
 
@@ -67,7 +69,8 @@ withNet r net = record { n = r .n; stopped = r .stopped; sites = r .sites; net =
 unfoldable pub takenOut : Run → ℕ → ℕ → ℕ → Run
 takenOut r k from s = withNet r (set (r .net) (place k from) (without (receivers (r .net) k from) s))
 
--- site s writes messages of kind k to a set of sites: "a message to a stopped site doesn't enter the network"
+-- site s writes messages of kind k to a set of sites: "a message to a stopped site is counted as written and
+-- doesn't enter the network"
 unfoldable pub sentBy : Run → ℕ → ℕ → ℕ → Run
 sentBy r k s to = withNet r (set (r .net) (place k s) (union (receivers (r .net) k s) (minus to (r .stopped))))
 

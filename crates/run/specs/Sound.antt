@@ -26,6 +26,7 @@ pub record SoundMessage (r : Run) (k s j : ℕ) : Type 0 where
   pub ends : endsOf k s j ≡ true
   pub runs : hasStopped r j ≡ false
 
+-- "It is sound when its records are", its "stopped sites are within 1..n", and its messages are right
 pub record Sound (r : Run) : Type 0 where
   pub least : 2 ≤ r .n
   pub most : r .n ≤ 8
@@ -40,6 +41,7 @@ abbrev pub every : ℕ → (ℕ → Bool) → Bool
 every zero f = true
 every (suc n) f = every n f && f n
 
+-- site i's record is as in SoundPlace
 unfoldable pub soundPlace : Run → ℕ → Bool
 soundPlace r i =
     soundOf (siteAt r i) && eqb (siteAt r i .n) (r .n) && eqb (siteAt r i .number) i && subset (siteAt r i .known) (r .stopped)
@@ -58,6 +60,7 @@ mayReach n k s =
 unfoldable pub soundEntry : Run → ℕ → Bool
 soundEntry r p = subset (getD (r .net) p 0) (minus (mayReach (r .n) (p / 8 + 1) (p % 8 + 1)) (r .stopped))
 
+-- ground 1 is given where this is false: the run is as in Sound, place by place and entry by entry (SoundLaws)
 unfoldable pub soundRun : Run → Bool
 soundRun r =
     leb 2 (r .n) && leb (r .n) 8 && subset (r .stopped) (allOf (r .n))

@@ -1,5 +1,5 @@
 -- A leader's rules (01, "Site and messages"): Move-p, Move-w, Commit and Abort at a follower, Ack, Take over, and Conclude of a
--- leader that gathers acknowledgements. None of them asks which site is site 1: that is the first phase's matter.
+-- leader that gathers acknowledgements. Only `collects` (Site) asks for site 1: in w that site gathers votes.
 -- Assumes nothing.
 use Prim.Native.Nat.{ℕ}
 use mathlib.Core.Bool.{Bool, true, false, cond, not, _&&_, _||_}
@@ -23,7 +23,7 @@ movePAt P = To P
 movePAt A = Conflict
 movePAt C = To C
 
--- "Move-w: q and p go to w; w and a stay; Ack. In c a conflict"
+-- "Move-w: q and p go to w (q without a vote); w and a stay; Ack. In c a conflict"
 abbrev pub moveWAt : State → Order
 moveWAt Q = To W
 moveWAt W = To W

@@ -1,3 +1,4 @@
+-- A site's record and its step in 01's order; from SiteFacts on, what follows from them.
 pub mod Site
 pub mod First
 pub mod Leader

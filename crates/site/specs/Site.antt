@@ -167,7 +167,7 @@ namesOf s Conclude = true
 
 -- ---- whom a site waits for
 
--- site 1 in w gathers votes
+-- site 1 in w gathers votes (site 1 of a sound record leads: its leader is from 1 to its own number)
 unfoldable pub polls : Site → Bool
 polls s = isW (s .state) && eqb (s .number) 1
 

@@ -52,7 +52,7 @@ pub data Ends : ℕ → ℕ → ℕ → Type 0 where
 
 -- ---- how a record may change
 
--- the state goes along a line of 01's diagram, or stays: no line leaves a or c
+-- the state goes as a rule of 01 moves it, or stays: no rule leaves a or c
 pub data Moves : State → State → Type 0 where
   stays : {q : State} → Moves q q
   q-w : Moves Q W

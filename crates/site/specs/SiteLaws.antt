@@ -65,7 +65,7 @@ final-stays w-a e = absurd (false≢true e)
 final-stays p-w e = absurd (false≢true e)
 final-stays p-c e = absurd (false≢true e)
 
--- "a step never leaves a or c"
+-- a step never leaves a or c
 pub abort-kept : (s : Site) (t : Step) → s .state ≡ A → stepOf s t .site .state ≡ A
 abort-kept s t e = final-stays (step-changes s t .state) (rw e refl) ∙ e
 
@@ -110,7 +110,7 @@ change-sound {s} c g =
       acked = rw (c .n, c .number) (⊎-elim (λ h. grows-within h (g .acked)) (λ e. rw e (subset-none (others s))) (c .acked));
     }
 
--- "a sound record stays sound"
+-- a sound record stays sound
 pub sound-kept : (s : Site) (t : Step) → soundOf s ≡ true → soundOf (stepOf s t .site) ≡ true
 sound-kept s t e = parts-sound (stepOf s t .site) (change-sound (step-changes s t) (sound-parts s e))
 

@@ -148,7 +148,7 @@ is-p C e = absurd (false≢true e)
 
 -- ---- orders
 
--- an order that is obeyed goes along a line of the diagram
+-- an order that is obeyed moves the state as a rule of 01 does, or leaves it
 data Lawful (q : State) : Order → Type 0 where
   goes : {p : State} → Moves q p → Lawful q (To p)
   over : Lawful q Over

@@ -22,7 +22,8 @@ use Rattle.site.specs.Leader.{obeyOf, ackOf, takeOverOf, settleOf}
 unfoldable pub noticeOf : Site → ℕ → Done
 noticeOf s o = cond (has (s .known) o) (passed s) (taken (knowing s (withSite (s .known) o)) 0 0)
 
--- "Conclude, for a leader": site 1 in w by the votes, any other by the acknowledgements
+-- "Conclude, for a leader": site 1 in w by the votes (site 1 of a sound record leads: its leader is from 1 to its own number),
+-- any other by the acknowledgements
 unfoldable pub concludeOf : Site → Done
 concludeOf s = cond (polls s) (tallyOf s) (settleOf s)
 
@@ -60,6 +61,7 @@ countsOf (Refused g) s to = record { written = 0; awaited = 0 }
 abbrev pub kindOf : ℕ → ℕ → ℕ
 kindOf k to = cond (eqb to 0) 0 k
 
+-- what a step hands back: how it ends, and what it reports
 unfoldable pub answered : Done → Answer
 answered d =
     record {
@@ -70,6 +72,7 @@ answered d =
       counts = countsOf (d .outcome) (d .site) (d .to);
     }
 
+-- the answer to every step of every record: "A single site step can give 1, 2, 5, 6"
 unfoldable pub stepOf : Site → Step → Answer
 stepOf s t = answered (doneOf s t)
 
