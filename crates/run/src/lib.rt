@@ -135,7 +135,7 @@ fn is_there(step: Step, s: u8, news: u8, net: &[u8; 72]) -> bool
 {
     match step {
         Step::Begin(_) => true,
-        Step::Start(from, _) => net::holds(net, 1, from, s),
+        Step::Start(from, _) => net::holds(net, site::START, from, s),
         Step::Deliver(kind, from) => net::holds(net, kind, from, s),
         Step::Notice(o) => sets::member(news, o),
         Step::TakeOver => true,
@@ -179,7 +179,7 @@ fn deliver(net: &mut [u8; 72], s: u8, step: Step)
 {
     match step {
         Step::Begin(_) => {}
-        Step::Start(from, _) => net::take_out(net, 1, from, s),
+        Step::Start(from, _) => net::take_out(net, site::START, from, s),
         Step::Deliver(kind, from) => net::take_out(net, kind, from, s),
         Step::Notice(_) => {}
         Step::TakeOver => {}
@@ -236,7 +236,7 @@ impl Run {
     }
 
     // Is the run one that 01 allows?
-    pub fn sound(self) -> bool
+    fn sound(self) -> bool
         ensures { λ r. ⌜ r ≡ soundRun self ⌝ }
     {
         let n = self.n;

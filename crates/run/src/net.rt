@@ -2,14 +2,14 @@
 
 ghost use mathlib.Core.Path.{_≡_};
 ghost use mathlib.Core.List.{map};
-ghost use Prim.Native.Nat.{ℕ, _+_, _<_, _/_, _%_};
+ghost use Prim.Native.Nat.{ℕ, _+_, _/_, _%_};
 ghost use lib.ListN.{length, getD, set};
 ghost use Rattle.sets.specs.Sets.{has, union, minus, without, subset};
 ghost use Rattle.run.specs.Run.{place, receivers};
 ghost use Rattle.run.specs.Sound.{every, mayReach};
 
 // Where the receivers of a kind of message from a sender stand; 72 for a kind or a sender that there is not.
-pub fn place(kind: u8, sender: u8) -> usize
+pub(crate) fn place(kind: u8, sender: u8) -> usize
     ensures { λ r. ⌜ r ≡ place kind sender ⌝ }
 {
     if kind < 1 {
@@ -111,7 +111,7 @@ fn sound_entry(to: u8, n: u8, stopped: u8, at: u8) -> bool
 }
 
 // Is every outstanding message one that may be?
-pub fn sound(net: &[u8; 72], n: u8, stopped: u8) -> bool
+pub(crate) fn sound(net: &[u8; 72], n: u8, stopped: u8) -> bool
     ensures { λ r. ⌜ r ≡ every 72 (λ (at : ℕ). subset (getD (now (net .entry)) at 0) (minus (mayReach n (at / 8 + 1) (at % 8 + 1)) stopped)) ⌝ }
 {
     let mut at: u8 = 0;
