@@ -7,14 +7,15 @@ use mathlib.Core.Path.{_≡_, refl, sym, ap, _∙_}
 use native.Mathlib.Omega.{arith}
 use Rattle.site.specs.declared.Outcome.{Outcome}
 use Rattle.site.specs.declared.Outcome.the-variants.{Taken, Passed, Refused}
+use Rattle.site.specs.Step.{groundOf}
 use Rattle.run.proofs.Events.{Accepted}
-use Rattle.embed.specs.Bytes.{refusalOf, leavesBoth, called}
+use Rattle.embed.specs.Bytes.{leavesBoth, called}
 
 refused-not : (g : ℕ) → Accepted (Refused g) → ⊥
 refused-not g h = elim h [ inl e ↦ omega arith | inr e ↦ omega arith ]
 
 -- an accepted outcome is returned as 0
-pub accepted-zero : (o : Outcome) → Accepted o → 0 ≡ refusalOf o
+pub accepted-zero : (o : Outcome) → Accepted o → 0 ≡ groundOf o
 accepted-zero Taken h = refl
 accepted-zero Passed h = refl
 accepted-zero (Refused g) h = absurd (refused-not g h)

@@ -47,12 +47,6 @@ outcomeByte Taken = 0
 outcomeByte Passed = 1
 outcomeByte (Refused g) = 2
 
--- what a call returns for an outcome: 0, or the refusal
-abbrev pub refusalOf : Outcome → ℕ
-refusalOf Taken = 0
-refusalOf Passed = 0
-refusalOf (Refused g) = g
-
 -- what a call returns and leaves: of one lent slice, or of two, a record's and the answer's
 pub record Left : Type 0 where
   pub returned : ℕ

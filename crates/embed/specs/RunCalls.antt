@@ -5,6 +5,7 @@ use mathlib.Core.Bool.{Bool, cond, _&&_}
 use mathlib.Core.List.{List, [], _∷_, _++_, map, flatMap}
 use lib.Dec.{eqb, ltb, leb}
 use lib.ListN.{length, getD, take, drop}
+use Rattle.site.specs.Step.{groundOf}
 use Rattle.run.specs.declared.Run.{Run}
 use Rattle.run.specs.declared.Ran.{Ran}
 use Rattle.run.specs.Sound.{every}
@@ -12,7 +13,7 @@ use Rattle.run.specs.Event.{freshOf, eventOf}
 use Rattle.fields.specs.declared.Made.{Made}
 use Rattle.fields.specs.declared.Made.the-variants.{Good, Bad}
 use Rattle.fields.specs.Fields.{body, eventFrom}
-use Rattle.embed.specs.Bytes.{siteBytes, siteFrom, outcomeByte, refusalOf, Left, leaves, LeftBoth, leavesBoth, called}
+use Rattle.embed.specs.Bytes.{siteBytes, siteFrom, outcomeByte, Left, leaves, LeftBoth, leavesBoth, called}
 
 -- ---- a run as bytes: n, stopped, eight site records, 72 bytes of network
 
@@ -36,7 +37,7 @@ isRun l = eqb (length l) 138 && every 8 (λ (i : ℕ). leb (getD l (8 * i + 4) 0
 
 -- 15 for a slice that is not 138 bytes, with nothing touched; else the fresh run's bytes, also those of a refused one
 unfoldable pub freshCall : ℕ → List ℕ → Left
-freshCall n l = cond (eqb (length l) 138) (leaves (refusalOf (freshOf n .outcome)) (runBytes (freshOf n .run))) (leaves 15 l)
+freshCall n l = cond (eqb (length l) 138) (leaves (groundOf (freshOf n .outcome)) (runBytes (freshOf n .run))) (leaves 15 l)
 
 -- ---- `fj_run_event`
 

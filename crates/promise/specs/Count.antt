@@ -8,8 +8,8 @@ use native.Mathlib.Decide.{ℕ-discrete}
 use native.Mathlib.Omega.{arith}
 use Rattle.sets.specs.Sets.{has, union, without}
 use Rattle.sets.specs.SetLaws.{has-site, one-if, members}
-use Rattle.sets.specs.Truths.{clash}
-use Rattle.promise.specs.SetsMembers.{In, in?, union-in, without-in, without-out}
+use Rattle.sets.specs.Truths.{clash, either}
+use Rattle.promise.specs.SetsMembers.{In, union-in, without-in, without-out}
 
 -- What holds of 2, 3, .. and 8 holds of each number of sites.
 pub by-size : (M : ℕ → Type 0) → M 2 → M 3 → M 4 → M 5 → M 6 → M 7 → M 8 → (n : ℕ) → 2 ≤ n → n ≤ 8 → M n
@@ -65,7 +65,7 @@ abbrev Spot : ℕ → ℕ → Type 0
 Spot m i = ((one-if (has m i) ≡ 1) × In m i) ⊎ ((one-if (has m i) ≡ 0) × (has m i ≡ false))
 
 spot : (m i : ℕ) → Spot m i
-spot m i = ⊎-elim (λ e. inl (ap one-if e, e)) (λ e. inr (ap one-if e, e)) (in? m i)
+spot m i = ⊎-elim (λ e. inl (ap one-if e, e)) (λ e. inr (ap one-if e, e)) (either (has m i))
 
 pub members-union : (a b w : ℕ) → members (union a b) w ≤ members a w + members b w
 unfolding members

@@ -21,12 +21,12 @@ use Rattle.site.specs.Site.{inRun, namesOf}
 use Rattle.run.specs.declared.Run.{Run}
 use Rattle.run.specs.declared.Event.{Event}
 use Rattle.run.specs.declared.Event.the-variants.{Act, Stop, Cut}
-use Rattle.run.specs.Run.{siteAt, outstanding, hasStopped, knows, takenOut, stoppedAt}
+use Rattle.run.specs.Run.{siteAt, outstanding, hasStopped, knows, takenOut, stoppedAt, stoppedIn}
 use Rattle.run.specs.Event.{isThere, delivered, eventOf}
 use Rattle.run.specs.After.{Tale, acceptedBy, onward, told, opening, after}
 use Rattle.sets.specs.Truths.{and-l, and-r, same as alike}
 use Rattle.promise.specs.SetsMembers.{In, minus-in, both-l, in-with, with-in, in-with-new}
-use Rattle.promise.specs.RunViews.{recordOf, Runs, stoppedNet}
+use Rattle.promise.specs.RunViews.{recordOf, Runs}
 use Rattle.run.specs.SoundLaws.{sound-parts}
 use Rattle.promise.specs.RunEvents.{Allowed, Denied, Halted, Unhalted, decide, decide-stop}
 use Rattle.promise.specs.Become.{by-site}
@@ -57,7 +57,7 @@ module _ (r : Run) (len : length (r .net) ≡ 72) (s : ℕ) where
   net-delivered step.TakeOver m = omega arith
   net-delivered step.Conclude m = omega arith
 
-  pub net-halted : (t : Step) → isThere r s t ≡ true → messages (stoppedNet (r .net) s) + netWorth t ≤ messages (r .net)
+  pub net-halted : (t : Step) → isThere r s t ≡ true → messages (stoppedIn (r .net) s) + netWorth t ≤ messages (r .net)
   unfolding outstanding
   net-halted (step.Begin v) m = omega (arith, messages-stopped (r .net) s)
   net-halted (step.Start from v) m = messages-halted (r .net) len 1 from s m
@@ -195,7 +195,7 @@ module _ (w : ℕ → Type 0) (r : Run) (h : Held w r) (s : ℕ) (t : Step) (al 
         arith,
         potential-is (partAt r s t x),
         potential-is r,
-        messages-sent (stoppedNet (r .net) s) (length-map (r .net) _ ∙ h .shape .net) (kindAt r s t) s (leaving r s t x),
+        messages-sent (stoppedIn (r .net) s) (length-map (r .net) _ ∙ h .shape .net) (kindAt r s t) s (leaving r s t x),
         net-halted r (h .shape .net) s t (al .there),
         parts-gone r s (al .runs) (good .most) (partAt r s t x .net),
         pairs-gone r s (al .runs) (good .most) (partAt r s t x .net),
@@ -225,15 +225,15 @@ module _ (w : ℕ → Type 0) (r : Run) (h : Held w r) where
           most : r .n ≤ 8
           most = sound-parts r (h .shape) (n .sound) .most
 
-          lower : 1 + potential (gone r s (n .runs) most (stoppedNet (r .net) s)) ≤ potential r
+          lower : 1 + potential (gone r s (n .runs) most (stoppedIn (r .net) s)) ≤ potential r
           lower =
               omega (
                 arith,
-                potential-is (gone r s (n .runs) most (stoppedNet (r .net) s)),
+                potential-is (gone r s (n .runs) most (stoppedIn (r .net) s)),
                 potential-is r,
                 messages-stopped (r .net) s,
-                parts-gone r s (n .runs) most (stoppedNet (r .net) s),
-                pairs-gone r s (n .runs) most (stoppedNet (r .net) s),
+                parts-gone r s (n .runs) most (stoppedIn (r .net) s),
+                pairs-gone r s (n .runs) most (stoppedIn (r .net) s),
               )
 
 pub told-falls : (w : ℕ → Type 0) (t : Tale) (es : List Event) → Held w (t .run) → told t es .accepted + potential (told t es .run) ≤ t .accepted + potential (t .run)

@@ -17,17 +17,17 @@ use Rattle.site.specs.declared.Step.{Step}
 use Rattle.site.specs.declared.Step.the-variants as step
 use Rattle.site.specs.declared.Done.{Done}
 use Rattle.site.specs.Site.{namesOf}
-use Rattle.site.specs.Step.{ruleOf, doneOf, answered, stepOf}
+use Rattle.site.specs.Step.{ruleOf, doneOf, answered, stepOf, groundOf}
 use Rattle.run.specs.declared.Run.{Run}
 use Rattle.run.specs.declared.Event.{Event}
 use Rattle.run.specs.declared.Event.the-variants.{Act, Stop, Cut}
 use Rattle.run.specs.declared.Ran.{Ran}
-use Rattle.run.specs.Run.{siteAt, withRecord, takenOut, sentBy, stoppedAt}
+use Rattle.run.specs.Run.{siteAt, withRecord, takenOut, sentBy, stoppedAt, takenIn}
 use Rattle.run.specs.Sound.{Sound, soundRun}
 use Rattle.run.specs.Event.{refusedRun, isThere, delivered, acted, cutShort, eventOf}
 use Rattle.promise.specs.SetsMembers.{In, in-none, minus-in, both-l, both-r}
 use Rattle.run.specs.Views.{Shape, delivered-net}
-use Rattle.promise.specs.RunViews.{recordOf, Placed, placed, replaced, others, Runs, Out, takenNet, taken-less}
+use Rattle.promise.specs.RunViews.{recordOf, Placed, placed, replaced, others, Runs, Out, taken-less}
 use Rattle.run.specs.SoundLaws.{sound-parts}
 use Rattle.promise.specs.RunEvents.{Accepted, Allowed, Denied, Halted, decide, decide-stop}
 use Rattle.promise.specs.Classes.{IsYes, Gives, IsQ, order-gives, yes-gives}
@@ -101,7 +101,7 @@ sure Passed h x = x
 sure (Refused g) h x = absurd h
 
 -- a step takes nothing out of the network, or the one message that it delivers: what holds in both cases, of the network and of what is delivered, holds
-pub by-delivery : (M : List ℕ → (ℕ → ℕ → Type 0) → Type 0) (r : Run) (s : ℕ) (t : Step) → M (r .net) (λ K k. ⊥) → ((c f : ℕ) → M (takenNet (r .net) c f s) (λ K k. (c ≡ K) × (f ≡ k)))
+pub by-delivery : (M : List ℕ → (ℕ → ℕ → Type 0) → Type 0) (r : Run) (s : ℕ) (t : Step) → M (r .net) (λ K k. ⊥) → ((c f : ℕ) → M (takenIn (r .net) c f s) (λ K k. (c ≡ K) × (f ≡ k)))
     → M (delivered r s t .net) (Delivers t)
 unfolding takenOut
 by-delivery M r s (step.Begin v) none one = none
@@ -287,11 +287,6 @@ module _ (w : ℕ → Type 0) (r : Run) (h : Held w r) where
               }
 
   -- no event conflicts
-  abbrev groundOf : Outcome → ℕ
-  groundOf Taken = 0
-  groundOf Passed = 0
-  groundOf (Refused g) = g
-
   accepts : (o : Outcome) → Accepted o → o ≡ Refused 6 → ⊥
   accepts o y e = subst Accepted e y
 

@@ -15,12 +15,12 @@ use Rattle.run.specs.declared.Run.{Run}
 use Rattle.run.specs.declared.Event.{Event}
 use Rattle.run.specs.declared.Event.the-variants.{Act, Stop, Cut}
 use Rattle.run.specs.declared.Ran.{Ran}
-use Rattle.run.specs.Run.{stoppedAt, freshRun}
+use Rattle.run.specs.Run.{stoppedAt, freshRun, stoppedIn, takenIn}
 use Rattle.run.specs.Event.{refusedRun, delivered, eventOf}
 use Rattle.run.specs.After.{Tale, onward, told, opening, after}
 use Rattle.promise.specs.SetsMembers.{In, in-minus}
 use Rattle.run.specs.Views.{Shape}
-use Rattle.promise.specs.RunViews.{recordOf, Runs, Out, stoppedNet, takenNet, sent-cases, sent-old, sent-new, taken-old, taken-gone, stopped-old}
+use Rattle.promise.specs.RunViews.{recordOf, Runs, Out, sent-cases, sent-old, sent-new, taken-old, taken-gone, stopped-old}
 use Rattle.run.specs.SoundLaws.{sound-parts}
 use Rattle.promise.specs.RunEvents.{Allowed, Halted, decide, decide-stop}
 use Rattle.promise.specs.Classes.{Kind, Start, Yes, No, MoveP, MoveW, Ack, Commit, Abort}
@@ -42,7 +42,7 @@ delivered-old r s t h =
 delivered-gone : (r : Run) (s : ℕ) (t : Step) → Shape r → (C k : ℕ) → Delivers t C k → Out (delivered r s t .net) C k s → ⊥
 delivered-gone r s t h =
     by-delivery (λ net D. (C k : ℕ) → D C k → Out net C k s → ⊥) r s t (λ C k d x. d)
-    (λ c f C k d x. taken-gone (r .net) c f s (h .net) (subst (λ (k : ℕ). Out (takenNet (r .net) c f s) c k s) (sym (d .1)) (subst (λ (C : ℕ). Out (takenNet (r .net) c f s) C k s) (sym (d .0)) x)))
+    (λ c f C k d x. taken-gone (r .net) c f s (h .net) (subst (λ (k : ℕ). Out (takenIn (r .net) c f s) c k s) (sym (d .1)) (subst (λ (C : ℕ). Out (takenIn (r .net) c f s) C k s) (sym (d .0)) x)))
 
 kind-in : (κ : Kind) → (1 ≤ number κ) × (number κ ≤ 9)
 kind-in Start = (omega arith, omega arith)
@@ -124,7 +124,7 @@ module _ (w : ℕ → Type 0) (r : Run) (h : Held w r) (s : ℕ) (t : Step) (al 
         runs = λ i. still-runs r s most i (partAt r s t x .net);
         st = λ i. refl;
         ld = λ i. refl;
-        stay = λ c k i ne. ⊎-elim (λ z. inl (sent-old (stoppedNet (r .net) s) (kindAt r s t) s (leaving r s t x) (length-map (r .net) _ ∙ h .shape .net) (number c) k i (stopped-old (r .net) s (number c) k i z ne))) (λ z. inr z);
+        stay = λ c k i ne. ⊎-elim (λ z. inl (sent-old (stoppedIn (r .net) s) (kindAt r s t) s (leaving r s t x) (length-map (r .net) _ ∙ h .shape .net) (number c) k i (stopped-old (r .net) s (number c) k i z ne))) (λ z. inr z);
         only = λ k i ne z. ⊎-elim (λ u. u) (λ u. absurd (ne (sym (u .1)))) (part-less w r h s t al w x .live Start k i z);
       }) o)
 

@@ -16,11 +16,11 @@ use Rattle.sets.specs.Sets.{bit, isSite, has, union, without}
 use Rattle.sets.specs.SetLaws.{has-site, one-if, members}
 use Rattle.site.specs.declared.Site.{Site as Record}
 use Rattle.run.specs.declared.Run.{Run}
-use Rattle.run.specs.Run.{place, receivers, freshRun}
-use Rattle.run.specs.Views.{Place, isPlace, place-parts, parts-place, place-is, place-none}
+use Rattle.run.specs.Run.{place, receivers, freshRun, sentIn, takenIn, stoppedIn}
+use Rattle.run.specs.Views.{Place, isPlace, place-parts, parts-place, place-is, place-none, entry-stopped}
 use Rattle.sets.specs.Truths.{clash, fails}
 use Rattle.promise.specs.SetsMembers.{In, without-in}
-use Rattle.promise.specs.RunViews.{recordOf, Out, out-placed, sentNet, takenNet, stoppedNet, stopped-at}
+use Rattle.promise.specs.RunViews.{recordOf, Out, out-placed}
 use Rattle.promise.specs.Count.{by-size, sum, sum-le, sum-lt, sum-at, members-union, members-le, members-without}
 use Rattle.promise.specs.Brings.{heavy, weigh}
 use Rattle.promise.specs.Measure.{own}
@@ -63,10 +63,10 @@ module _ (net : List ℕ) (len : length net ≡ 72) (K s : ℕ) (h : Place K s) 
       (subst (λ (y : ℕ). sum 72 (weighAt (set net (place K s) m)) + weighAt net (place K s) ≡ sum 72 (weighAt net) + weigh (place K s / 8 + 1) * members y 8) (getD-set-same net (place K s) m 0 (omega (arith, in-net)))
       (sum-at 72 (weighAt (set net (place K s) m)) (weighAt net) (place K s) in-net (λ i ne. ap (λ (y : ℕ). weigh (i / 8 + 1) * members y 8) (getD-set-other net (place K s) i m 0 ne))))
 
-pub messages-sent : (net : List ℕ) (len : length net ≡ 72) (K s m : ℕ) → messages (sentNet net K s m) ≤ messages net + weigh K * members m 8
+pub messages-sent : (net : List ℕ) (len : length net ≡ 72) (K s m : ℕ) → messages (sentIn net K s m) ≤ messages net + weigh K * members m 8
 messages-sent net len K s m = go (isPlace K s) refl
   where
-    go : (b : Bool) → isPlace K s ≡ b → messages (sentNet net K s m) ≤ messages net + weigh K * members m 8
+    go : (b : Bool) → isPlace K s ≡ b → messages (sentIn net K s m) ≤ messages net + weigh K * members m 8
     go false e = rw (set-out net (place K s) (union (receivers net K s) m) (omega (arith, place-none K s e))) (omega arith)
     go true e =
         omega (
@@ -76,7 +76,7 @@ messages-sent net len K s m = go (isPlace K s) refl
         )
 
 module _ (net : List ℕ) (len : length net ≡ 72) (K k j : ℕ) (x : Out net K k j) where
-  pub messages-taken : messages (takenNet net K k j) + weigh K ≤ messages net
+  pub messages-taken : messages (takenIn net K k j) + weigh K ≤ messages net
   messages-taken =
       omega (
         arith,
@@ -86,17 +86,17 @@ module _ (net : List ℕ) (len : length net ≡ 72) (K k j : ℕ) (x : Out net K
       )
 
   -- a stop takes that message out too
-  pub messages-halted : messages (stoppedNet net j) + weigh K ≤ messages net
+  pub messages-halted : messages (stoppedIn net j) + weigh K ≤ messages net
   unfolding messages
-  messages-halted = omega (arith, messages-taken, sum-le 72 (weighAt (stoppedNet net j)) (weighAt (takenNet net K k j)) (λ p _. scale-le (heavy (p / 8 + 1)) _ _ (at p (ℕ-discrete p (place K k)))))
+  messages-halted = omega (arith, messages-taken, sum-le 72 (weighAt (stoppedIn net j)) (weighAt (takenIn net K k j)) (λ p _. scale-le (heavy (p / 8 + 1)) _ _ (at p (ℕ-discrete p (place K k)))))
     where
-      at : (p : ℕ) → Dec (p ≡ place K k) → members (getD (stoppedNet net j) p 0) 8 ≤ members (getD (takenNet net K k j) p 0) 8
-      at p (yes e) = rw (stopped-at net j p, e, getD-set-same net (place K k) (without (receivers net K k) j) 0 (omega (arith, in-net net len K k (out-placed net len K k j x)))) (omega arith)
-      at p (no ne) = rw (stopped-at net j p, getD-set-other net (place K k) p (without (receivers net K k) j) 0 ne) (members-le _ _ 8 (without-in (getD net p 0) j))
+      at : (p : ℕ) → Dec (p ≡ place K k) → members (getD (stoppedIn net j) p 0) 8 ≤ members (getD (takenIn net K k j) p 0) 8
+      at p (yes e) = rw (entry-stopped net j p, e, getD-set-same net (place K k) (without (receivers net K k) j) 0 (omega (arith, in-net net len K k (out-placed net len K k j x)))) (omega arith)
+      at p (no ne) = rw (entry-stopped net j p, getD-set-other net (place K k) p (without (receivers net K k) j) 0 ne) (members-le _ _ 8 (without-in (getD net p 0) j))
 
-pub messages-stopped : (net : List ℕ) (j : ℕ) → messages (stoppedNet net j) ≤ messages net
+pub messages-stopped : (net : List ℕ) (j : ℕ) → messages (stoppedIn net j) ≤ messages net
 unfolding messages
-messages-stopped net j = sum-le 72 (weighAt (stoppedNet net j)) (weighAt net) (λ p _. scale-le (heavy (p / 8 + 1)) _ _ (members-le _ _ 8 (λ i x. without-in (getD net p 0) j i (rw (stopped-at net j p) at x))))
+messages-stopped net j = sum-le 72 (weighAt (stoppedIn net j)) (weighAt net) (λ p _. scale-le (heavy (p / 8 + 1)) _ _ (members-le _ _ 8 (λ i x. without-in (getD net p 0) j i (rw (entry-stopped net j p) at x))))
 
 -- ---- what each running site may still do
 

@@ -7,7 +7,6 @@ use mathlib.Core.Logic.{_⊎_, inl, inr}
 use native.Mathlib.Omega.{arith}
 use lib.Dec.{leb}
 use borrow.Author.Tests.{leb-true, le-leb}
-use Rattle.sets.specs.Sets.{both, countOf}
 use Rattle.site.specs.declared.Outcome.{Outcome}
 use Rattle.site.specs.declared.Outcome.the-variants.{Taken, Passed, Refused}
 use Rattle.site.specs.declared.Step.{Step}
@@ -15,10 +14,10 @@ use Rattle.site.specs.Site.{namesOf}
 use Rattle.site.specs.Step.{stepOf}
 use Rattle.run.specs.declared.Run.{Run}
 use Rattle.run.specs.declared.Event.the-variants.{Act, Stop, Cut}
-use Rattle.run.specs.declared.Ran.{Ran}
 use Rattle.run.specs.Run.{siteAt, hasStopped, stoppedAt}
 use Rattle.run.specs.Sound.{soundRun}
-use Rattle.run.specs.Event.{none, refusedRun, takenRun, isActor, isThere, acted, cutShort, ranStep, grounded, stopped, eventOf}
+use Rattle.run.specs.Event.{refusedRun, takenRun, isActor, isThere, ranStep, grounded, stopped, eventOf}
+use Rattle.run.specs.Reply.{whole as wholly, short as partly}
 use Rattle.sets.specs.Truths.{and-l, and-r}
 use Rattle.promise.specs.RunViews.{Runs}
 
@@ -28,13 +27,6 @@ Accepted Taken = Unit
 Accepted Passed = Unit
 Accepted (Refused g) = ⊥
 
--- What an accepted step of site s does, whole and cut short.
-abbrev wholly : Run → ℕ → Step → Ran
-wholly r s t = record { run = acted r s t (stepOf (siteAt r s) t); outcome = stepOf (siteAt r s) t .outcome; counts = stepOf (siteAt r s) t .counts }
-
-abbrev partly : Run → ℕ → Step → ℕ → Ran
-partly r s t x = takenRun (cutShort r s (stepOf (siteAt r s) t) x) (countOf (both (stepOf (siteAt r s) t .to) x))
-
 -- What an accepted step of site s needs, whole or cut short.
 pub record Allowed (r : Run) (s : ℕ) (t : Step) : Type 0 where
   pub sound : soundRun r ≡ true
@@ -43,8 +35,8 @@ pub record Allowed (r : Run) (s : ℕ) (t : Step) : Type 0 where
   pub there : isThere r s t ≡ true
   pub accepted : Accepted (stepOf (siteAt r s) t .outcome)
   -- and what it does
-  pub whole : eventOf r (Act s t) ≡ wholly r s t
-  pub part : (x : ℕ) → eventOf r (Cut s t x) ≡ partly r s t x
+  pub whole : eventOf r (Act s t) ≡ wholly r s t (stepOf (siteAt r s) t)
+  pub part : (x : ℕ) → eventOf r (Cut s t x) ≡ partly r s x (stepOf (siteAt r s) t)
 
 -- A refused step: with a ground below 5, or with the site's own.
 pub record Denied (r : Run) (s : ℕ) (t : Step) : Type 0 where
@@ -57,7 +49,7 @@ pub record Denied (r : Run) (s : ℕ) (t : Step) : Type 0 where
 pub record Halted (r : Run) (s : ℕ) : Type 0 where
   pub sound : soundRun r ≡ true
   pub runs : Runs r s
-  pub done : eventOf r (Stop s) ≡ record { run = stoppedAt r s; outcome = Taken; counts = none }
+  pub done : eventOf r (Stop s) ≡ takenRun (stoppedAt r s) 0
 
 pub record Unhalted (r : Run) (s : ℕ) : Type 0 where
   pub ground : ℕ
@@ -76,7 +68,7 @@ module _ (r : Run) (s : ℕ) where
       where
         -- no ground holds, and the site accepts the step
         clear : soundRun r ≡ true → (isActor r s && namesOf (siteAt r s) t) ≡ true → hasStopped r s ≡ false → isThere r s t ≡ true
-            → Accepted (stepOf (siteAt r s) t .outcome) → eventOf r (Act s t) ≡ wholly r s t → ((x : ℕ) → eventOf r (Cut s t x) ≡ partly r s t x) → Allowed r s t
+            → Accepted (stepOf (siteAt r s) t .outcome) → eventOf r (Act s t) ≡ wholly r s t (stepOf (siteAt r s) t) → ((x : ℕ) → eventOf r (Cut s t x) ≡ partly r s x (stepOf (siteAt r s) t)) → Allowed r s t
         clear p q u v ok e f =
             record { sound = p; runs = actor (and-l _ _ q) u; names = and-r (isActor r s) _ q; there = v; accepted = ok; whole = e; part = f }
 

@@ -2,7 +2,7 @@
 -- Assumes nothing.
 use Prim.Native.Nat.{ℕ, zero, suc, _-_, _≤_}
 use mathlib.Core.Bool.{Bool, true, false, cond, _&&_}
-use mathlib.Core.List.{List, [], _∷_, map}
+use mathlib.Core.List.{List}
 use mathlib.Core.Path.{_≡_, refl, sym, ap, subst, _∙_}
 use mathlib.Core.Logic.{_≢_, _⊎_, inl, inr, ⊎-elim}
 use native.Mathlib.Decide.{ℕ-discrete}
@@ -11,12 +11,12 @@ use lib.Dec.{eqb}
 use lib.ListN.{length, getD, set}
 use lib.Seq.{getD-set-same, getD-set-other}
 use borrow.Author.Tests.{eqb-true, eq-eqb}
-use Rattle.sets.specs.Sets.{has, union, minus, without}
+use Rattle.sets.specs.Sets.{has, union, without}
 use Rattle.site.specs.declared.Site.{Site as Record}
 use Rattle.run.specs.declared.Run.{Run}
-use Rattle.run.specs.Views.{Place, isPlace, place-parts, parts-place, none-past, entry}
+use Rattle.run.specs.Views.{Place, isPlace, place-parts, parts-place, none-past, entry, entry-stopped}
 use Rattle.run.specs.Sound.{Sound}
-use Rattle.run.specs.Run.{noSite, siteAt, place, receivers}
+use Rattle.run.specs.Run.{noSite, siteAt, place, receivers, takenIn, sentIn, stoppedIn}
 use Rattle.sets.specs.Truths.{and-l, and-r}
 use Rattle.promise.specs.SetsMembers.{In, in-none, union-in, in-left, in-right, without-in, without-out, in-without}
 
@@ -110,61 +110,43 @@ out-placed net len K k i x = go (isPlace K k) refl
     go false e = absurd (in-none i (rw (none-past net K k len e) at x))
 
 -- The network after messages of kind K from s were written to the sites of m, after the message of kind K from k to j was taken out, after j stopped.
-abbrev pub sentNet : List ℕ → ℕ → ℕ → ℕ → List ℕ
-sentNet net K s m = set net (place K s) (union (receivers net K s) m)
-
-abbrev pub takenNet : List ℕ → ℕ → ℕ → ℕ → List ℕ
-takenNet net K k j = set net (place K k) (without (receivers net K k) j)
-
-abbrev pub stoppedNet : List ℕ → ℕ → List ℕ
-stoppedNet net j = map (λ (m : ℕ). without m j) net
-
 module _ (net : List ℕ) (K s m : ℕ) (len : length net ≡ 72) where
-  pub sent-cases : (K′ k i : ℕ) → Out (sentNet net K s m) K′ k i → Out net K′ k i ⊎ ((K ≡ K′) × (s ≡ k) × In m i)
+  pub sent-cases : (K′ k i : ℕ) → Out (sentIn net K s m) K′ k i → Out net K′ k i ⊎ ((K ≡ K′) × (s ≡ k) × In m i)
   sent-cases K′ k i x =
       ⊎-elim (λ y. inl y) (λ y. ⊎-elim (λ z. inl (rw (← y .0, ← y .1) z)) (λ z. inr (y .0, y .1, z)) (union-in (receivers net K s) m i (y .2)))
       (entry-cases net K s (union (receivers net K s) m) len K′ k i x)
 
-  pub sent-old : (K′ k i : ℕ) → Out net K′ k i → Out (sentNet net K s m) K′ k i
+  pub sent-old : (K′ k i : ℕ) → Out net K′ k i → Out (sentIn net K s m) K′ k i
   sent-old K′ k i x = entry-kept net K s (union (receivers net K s) m) len K′ k i x (λ _ _. in-left (receivers net K s) m i)
 
-  pub sent-new : Place K s → (i : ℕ) → In m i → Out (sentNet net K s m) K s i
+  pub sent-new : Place K s → (i : ℕ) → In m i → Out (sentIn net K s m) K s i
   sent-new h i x = rw (entry-same net K s (union (receivers net K s) m) len h) (in-right (receivers net K s) m i x)
 
 module _ (net : List ℕ) (K k j : ℕ) (len : length net ≡ 72) where
-  pub taken-less : (K′ k′ i : ℕ) → Out (takenNet net K k j) K′ k′ i → Out net K′ k′ i
+  pub taken-less : (K′ k′ i : ℕ) → Out (takenIn net K k j) K′ k′ i → Out net K′ k′ i
   taken-less K′ k′ i x =
       ⊎-elim (λ y. y) (λ y. rw (← y .0, ← y .1) (without-in (receivers net K k) j i (y .2))) (entry-cases net K k (without (receivers net K k) j) len K′ k′ i x)
 
-  pub taken-old : (K′ k′ i : ℕ) → Out net K′ k′ i → Out (takenNet net K k j) K′ k′ i ⊎ ((K ≡ K′) × (k ≡ k′) × (i ≡ j))
+  pub taken-old : (K′ k′ i : ℕ) → Out net K′ k′ i → Out (takenIn net K k j) K′ k′ i ⊎ ((K ≡ K′) × (k ≡ k′) × (i ≡ j))
   taken-old K′ k′ i x = go (ℕ-discrete K K′) (ℕ-discrete k k′) (ℕ-discrete i j)
     where
-      stays : (K ≡ K′ → k ≡ k′ → i ≢ j) → Out (takenNet net K k j) K′ k′ i
+      stays : (K ≡ K′ → k ≡ k′ → i ≢ j) → Out (takenIn net K k j) K′ k′ i
       stays n = entry-kept net K k (without (receivers net K k) j) len K′ k′ i x (λ e f y. in-without (receivers net K k) j i y (n e f))
 
-      go : Dec (K ≡ K′) → Dec (k ≡ k′) → Dec (i ≡ j) → Out (takenNet net K k j) K′ k′ i ⊎ ((K ≡ K′) × (k ≡ k′) × (i ≡ j))
+      go : Dec (K ≡ K′) → Dec (k ≡ k′) → Dec (i ≡ j) → Out (takenIn net K k j) K′ k′ i ⊎ ((K ≡ K′) × (k ≡ k′) × (i ≡ j))
       go (yes e) (yes f) (yes d) = inr (e, f, d)
       go (no n) d d′ = inl (stays (λ e. absurd (n e)))
       go (yes e) (no n) d′ = inl (stays (λ _ f. absurd (n f)))
       go (yes e) (yes f) (no n) = inl (stays (λ _ _. n))
 
-  pub taken-gone : Out (takenNet net K k j) K k j → ⊥
+  pub taken-gone : Out (takenIn net K k j) K k j → ⊥
   taken-gone x =
       let p : Place K k = out-placed net len K k j (taken-less K k j x) in
       without-out (receivers net K k) j j (rw (entry-same net K k (without (receivers net K k) j) len p) at x) refl
 
-without-0 : (j : ℕ) → without 0 j ≡ 0
-unfolding without minus
-without-0 j = refl
-
-pub stopped-at : (net : List ℕ) (j p : ℕ) → getD (stoppedNet net j) p 0 ≡ without (getD net p 0) j
-stopped-at [] j p = sym (without-0 j)
-stopped-at (x ∷ l) j zero = refl
-stopped-at (x ∷ l) j (suc p) = stopped-at l j p
-
 module _ (net : List ℕ) (j : ℕ) where
-  pub stopped-less : (K k i : ℕ) → Out (stoppedNet net j) K k i → Out net K k i
-  stopped-less K k i x = without-in (receivers net K k) j i (rw (stopped-at net j (place K k)) at x)
+  pub stopped-less : (K k i : ℕ) → Out (stoppedIn net j) K k i → Out net K k i
+  stopped-less K k i x = without-in (receivers net K k) j i (rw (entry-stopped net j (place K k)) at x)
 
-  pub stopped-old : (K k i : ℕ) → Out net K k i → i ≢ j → Out (stoppedNet net j) K k i
-  stopped-old K k i x ne = rw (stopped-at net j (place K k)) (in-without (receivers net K k) j i x ne)
+  pub stopped-old : (K k i : ℕ) → Out net K k i → i ≢ j → Out (stoppedIn net j) K k i
+  stopped-old K k i x ne = rw (entry-stopped net j (place K k)) (in-without (receivers net K k) j i x ne)

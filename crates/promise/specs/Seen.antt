@@ -11,11 +11,11 @@ use lib.ListN.{length, set, length-map}
 use Rattle.sets.specs.Sets.{has, withSite}
 use Rattle.site.specs.declared.Site.{Site as Record}
 use Rattle.run.specs.declared.Run.{Run}
-use Rattle.run.specs.Run.{stoppedAt}
+use Rattle.run.specs.Run.{stoppedAt, sentIn, stoppedIn}
 use Rattle.sets.specs.Truths.{clash, fails}
 use Rattle.promise.specs.SetsMembers.{In, in-with, in-with-new}
 use Rattle.run.specs.Views.{Shape}
-use Rattle.promise.specs.RunViews.{recordOf, replaced, others, Runs, Out, sentNet, sent-cases, stoppedNet, stopped-less}
+use Rattle.promise.specs.RunViews.{recordOf, replaced, others, Runs, Out, sent-cases, stopped-less}
 use Rattle.promise.specs.Classes.{Kind, Start, Yes, No, MoveP, MoveW, Ack, Commit, Abort, byKind}
 use Rattle.promise.specs.View.{View}
 use Rattle.promise.specs.Less.{Less, stop}
@@ -78,15 +78,15 @@ viewOf w r =
 
 -- The run r in which site j has a new record x, the network is net, and messages of kind K of j to the sites of m are added.
 abbrev pub wholeRun : Run → List ℕ → ℕ → Record → ℕ → ℕ → Run
-wholeRun r net j x K m = record { n = r .n; stopped = r .stopped; sites = set (r .sites) (j - 1) x; net = sentNet net K j m }
+wholeRun r net j x K m = record { n = r .n; stopped = r .stopped; sites = set (r .sites) (j - 1) x; net = sentIn net K j m }
 
 -- The run r in which site j has stopped, and messages of kind K of j to the sites of m are added.
 abbrev pub partRun : Run → ℕ → ℕ → ℕ → Run
-partRun r j K m = record { n = r .n; stopped = withSite (r .stopped) j; sites = r .sites; net = sentNet (stoppedNet (r .net) j) K j m }
+partRun r j K m = record { n = r .n; stopped = withSite (r .stopped) j; sites = r .sites; net = sentIn (stoppedIn (r .net) j) K j m }
 
 -- Messages of kind K of j to the sites of m are added to net, which is r's network, perhaps with fewer messages: what is then outstanding was so in r, or is one of them.
 sent-live : (r : Run) (net : List ℕ) → length net ≡ 72 → ((K k i : ℕ) → Out net K k i → Out (r .net) K k i) → (j K m : ℕ) (κ : Kind) (T : ℕ → Type 0) → ((i : ℕ) → In m i → (K ≡ number κ) × T i)
-    → (κ′ : Kind) (k i : ℕ) → Out (sentNet net K j m) (number κ′) k i → Out (r .net) (number κ′) k i ⊎ ((κ ≡ κ′) × (j ≡ k) × T i)
+    → (κ′ : Kind) (k i : ℕ) → Out (sentIn net K j m) (number κ′) k i → Out (r .net) (number κ′) k i ⊎ ((κ ≡ κ′) × (j ≡ k) × T i)
 sent-live r net len fewer j K m κ T kind κ′ k i y =
     ⊎-elim (λ z. inl (fewer (number κ′) k i z)) (λ z. let c = kind i (z .2) in inr (same-kind κ κ′ (sym (c .0) ∙ z .0), z .1, c .1)) (sent-cases net K j m len (number κ′) k i y)
 
@@ -139,7 +139,7 @@ module _ (r : Run) (j : ℕ) (j8 : j ≤ 8) where
       record {
         st = λ i. refl;
         ld = λ i. refl;
-        runs = λ i. still-runs i (stoppedNet (r .net) j);
+        runs = λ i. still-runs i (stoppedIn (r .net) j);
         old = λ i y. y;
         new = λ i y. inl y;
         live = λ κ k i. ⊎-elim (λ y. inl (stopped-less (r .net) j (number κ) k i y)) (λ y. inr y);
@@ -153,7 +153,7 @@ module _ (w w′ : ℕ → Type 0) (r : Run) (shape : Shape r) (j : ℕ) (j1 : 1
 
   lives′ : (κ′ : Kind) (k i : ℕ) → viewOf w′ partly .live κ′ k i → viewOf w r .live κ′ k i ⊎ ((κ ≡ κ′) × (j ≡ k) × T i)
   lives′ κ′ k i (inl y) =
-      ⊎-elim (λ z. inl (inl z)) (λ z. inr z) (sent-live r (stoppedNet (r .net) j) (length-map (r .net) _ ∙ shape .net) (stopped-less (r .net) j) j K m κ T kind κ′ k i y)
+      ⊎-elim (λ z. inl (inl z)) (λ z. inr z) (sent-live r (stoppedIn (r .net) j) (length-map (r .net) _ ∙ shape .net) (stopped-less (r .net) j) j K m κ T kind κ′ k i y)
   lives′ κ′ k i (inr y) = inl (inr y)
 
   pub partly-less : Less (viewOf w′ partly) (send (stop (viewOf w r) j (viewOf w′ r .voted)) κ j T)

@@ -1,7 +1,7 @@
 -- Membership in a set of sites as a type, with one law for each operation, in both directions.
 -- Assumes nothing.
 use Prim.Native.Nat.{ℕ, _≤_, _<_}
-use mathlib.Core.Bool.{Bool, true, false, not, _&&_, _||_, true≢false}
+use mathlib.Core.Bool.{true, false, not, _&&_}
 use mathlib.Core.Path.{_≡_, refl, sym, ap, _∙_}
 use mathlib.Core.Logic.{_≢_, _⊎_, inl, inr, ⊎-elim}
 use lib.Dec.{eqb, leb, ltb}
@@ -13,22 +13,6 @@ use Rattle.sets.specs.SetLaws.{Site, site-is, has-none, has-union, has-both, ha
 -- Site j is in m.
 abbrev pub In : ℕ → ℕ → Type 0
 In m j = has m j ≡ true
-
--- Tests of two Bools that fail.
-pub or-none : (x y : Bool) → (x || y) ≡ false → (x ≡ false) × (y ≡ false)
-or-none true y e = absurd (true≢false e)
-or-none false y e = (refl, e)
-
-pub and-none : (x y : Bool) → (x && y) ≡ false → (x ≡ false) ⊎ (y ≡ false)
-and-none true y e = inr e
-and-none false y e = inl refl
-
-pub in? : (m j : ℕ) → In m j ⊎ (has m j ≡ false)
-in? m j = go (has m j)
-  where
-    go : (x : Bool) → (x ≡ true) ⊎ (x ≡ false)
-    go true = inl refl
-    go false = inr refl
 
 pub in-none : (j : ℕ) → In 0 j → ⊥
 in-none j h = clash h (has-none j)

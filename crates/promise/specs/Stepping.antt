@@ -20,7 +20,7 @@ use Rattle.site.specs.declared.Step.{Step}
 use Rattle.site.specs.declared.Step.the-variants as step
 use Rattle.site.specs.declared.Site.{Site as Record}
 use Rattle.site.specs.declared.Done.{Done}
-use Rattle.site.specs.Site.{isQ, isW, isP, inState, following, knowing, follows, isOrder, endsOf, toAll, inRun, namesOf, polls, collects, awaitedOf, refused, passed, taken}
+use Rattle.site.specs.Site.{isQ, isW, isP, inState, following, knowing, leads, isOrder, endsOf, toAll, inRun, namesOf, polls, collects, awaitedOf, refused, passed, taken}
 use Rattle.site.specs.SiteFacts.{SoundSite}
 use Rattle.site.specs.SiteSteps.{sound-parts, is-q, is-w, is-p}
 use Rattle.site.specs.First.{begun, beginOf, voted, startOf, noted, voteOf, tallyOf}
@@ -29,8 +29,8 @@ use Rattle.site.specs.Step.{noticeOf, concludeOf, deliverOf, ruleOf}
 use Rattle.run.specs.declared.Run.{Run}
 use Rattle.run.specs.Run.{siteAt, outstanding}
 use Rattle.run.specs.Event.{isThere}
-use Rattle.sets.specs.Truths.{and-l, and-r, or-e, clash, fails}
-use Rattle.promise.specs.SetsMembers.{In, and-none, or-none, in?, in-none, minus-in, minus-out, in-minus, in-with, in-with-new, weight-in, in-weight, others-in, others-out, in-others, in-below}
+use Rattle.sets.specs.Truths.{and-l, and-r, or-e, clash, fails, and-none, or-none, either}
+use Rattle.promise.specs.SetsMembers.{In, in-none, minus-in, minus-out, in-minus, in-with, in-with-new, weight-in, in-weight, others-in, others-out, in-others, in-below}
 use Rattle.promise.specs.RunViews.{Runs, Placed, placed, Out}
 use Rattle.run.specs.Sound.{Sound}
 use Rattle.promise.specs.Classes.{Kind, Start, Yes, No, MoveP, MoveW, Ack, Commit, Abort, IsQ, PC, QWA, WP, IsYes, Gives, yes-gives}
@@ -321,7 +321,7 @@ module _ (w : ℕ → Type 0) (r : Run) (g : Sound r) (u : Inv (viewOf w r)) (j 
     unfolding collects
     gathers e l q =
         ⊎-elim (λ n. eqb-false (s .leader) (s .number) n (sym ld-is ∙ l .0 ∙ sym mine))
-        (λ n. go (s .state) refl (or-none (isP (s .state)) (isW (s .state) && not (eqb (s .number) 1)) n)) (and-none (follows s) (isP (s .state) || isW (s .state) && not (eqb (s .number) 1)) e)
+        (λ n. go (s .state) refl (or-none (isP (s .state)) (isW (s .state) && not (eqb (s .number) 1)) n)) (and-none (leads s) (isP (s .state) || isW (s .state) && not (eqb (s .number) 1)) e)
       where
         go : (t : State) → s .state ≡ t → (isP (s .state) ≡ false) × ((isW (s .state) && not (eqb (s .number) 1)) ≡ false) → ⊥
         go Q d n = rw (st-is ∙ d) at q
@@ -580,12 +580,12 @@ module _ (w : ℕ → Type 0) (r : Run) (g : Sound r) (u : Inv (viewOf w r)) (j 
   module _ (e : collects s ≡ true) where
     collecting : (isP (s .state) || isW (s .state) && not (eqb (s .number) 1)) ≡ true
     unfolding collects
-    collecting = and-r (follows s) (isP (s .state) || isW (s .state) && not (eqb (s .number) 1)) e
+    collecting = and-r (leads s) (isP (s .state) || isW (s .state) && not (eqb (s .number) 1)) e
 
     leading : Lead a j
     unfolding collects
     leading = (
-      ld-is ∙ eqb-true (s .leader) (s .number) (and-l (follows s) (isP (s .state) || isW (s .state) && not (eqb (s .number) 1)) e) ∙ mine,
+      ld-is ∙ eqb-true (s .leader) (s .number) (and-l (leads s) (isP (s .state) || isW (s .state) && not (eqb (s .number) 1)) e) ∙ mine,
       λ f. ⊎-elim (λ p. rw (st-is ∙ is-p (s .state) p) at (f .1)) (λ p. eqb-false (s .number) 1 (not-true (eqb (s .number) 1) (and-r (isW (s .state)) (not (eqb (s .number) 1)) p)) (mine ∙ f .0))
           (or-e (isP (s .state)) (isW (s .state) && not (eqb (s .number) 1)) collecting),
     )
@@ -597,14 +597,14 @@ module _ (w : ℕ → Type 0) (r : Run) (g : Sound r) (u : Inv (viewOf w r)) (j 
 
     module _ (none : minus (toAll s) (s .acked) ≡ 0) where
       told : (i : ℕ) → In (toAll s) i → In (s .acked) i
-      told i h = ⊎-elim (λ y. y) (λ y. absurd (in-none i (rw none at (in-minus (toAll s) (s .acked) i h y)))) (in? (s .acked) i)
+      told i h = ⊎-elim (λ y. y) (λ y. absurd (in-none i (rw none at (in-minus (toAll s) (s .acked) i h y)))) (either (has (s .acked) i))
 
       all-told : (i : ℕ) → i ≢ j → Runs r i → a .live Ack i j
       all-told i ne y = same-heard Ack i (told i (in-all i (y .least) (y .most) ne (running i y)))
 
       lower : (i : ℕ) → 1 ≤ i → i < j → In (s .known) i
       lower i p q =
-          ⊎-elim (λ y. y) (λ y. let d : j < i = u .down j i (same-heard Ack i (told i (in-all i p (omega (arith, x .most)) (λ e. omega arith) y))) in absurd (omega arith)) (in? (s .known) i)
+          ⊎-elim (λ y. y) (λ y. let d : j < i = u .down j i (same-heard Ack i (told i (in-all i p (omega (arith, x .most)) (λ e. omega arith) y))) in absurd (omega arith)) (either (has (s .known) i))
 
   settles : polls s ≡ false → M step.Conclude (settleOf s)
   unfolding settleOf

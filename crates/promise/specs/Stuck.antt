@@ -37,8 +37,8 @@ use Rattle.run.specs.Event.{isThere, freshOf, eventOf}
 use Rattle.run.specs.After.{acceptedBy, after}
 use Rattle.run.specs.SoundLaws.{sound-parts}
 use Rattle.run.specs.GoodRuns as run
-use Rattle.sets.specs.Truths.{and-i, clash, fails}
-use Rattle.promise.specs.SetsMembers.{In, or-none, in?, in-none, minus-in, minus-out, others-in, others-out, below-in}
+use Rattle.sets.specs.Truths.{and-i, clash, fails, or-none, either}
+use Rattle.promise.specs.SetsMembers.{In, in-none, minus-in, minus-out, others-in, others-out, below-in}
 use Rattle.promise.specs.RunViews.{recordOf, record-at, Runs, Placed, placed, Out, out-placed}
 use Rattle.promise.specs.RunEvents.{Accepted, allow}
 use Rattle.promise.specs.Classes.{Kind, Start, Yes, No, MoveP, MoveW, Ack, Commit, Abort, IsA, IsC, WP, First, is-a, is-c}
@@ -158,7 +158,7 @@ module _ (w : ℕ → Type 0) (r : Run) (h : Held w r) (o : Owed (viewOf w r)) (
         (λ y. absurd (tames s (step.Notice i) x
         (and-i (leb 1 i && leb i (z .n)) (not (eqb i (z .number))) (and-i (leb 1 i) (leb i (z .n)) (le-leb 1 i p) (le-leb i (z .n) (rw size q))) (ap not (ne-eqb i (z .number) (λ e. ne (e ∙ mine)))))
         (and-i (has (r .stopped) i) (not (has (z .known) i)) d (ap not y)) (tame-notice z i)))
-        (in? (z .known) i)
+        (either (has (z .known) i))
 
     -- a site of the run that it does not know stopped runs
     others-run : (i : ℕ) → 1 ≤ i → i ≤ r .n → i ≢ s → has (z .known) i ≡ false → Runs r i
@@ -168,7 +168,7 @@ module _ (w : ℕ → Type 0) (r : Run) (h : Held w r) (o : Owed (viewOf w r)) (
     module _ (low : Lowest (viewOf w r) s) where
       lower-known : (i : ℕ) → 1 ≤ i → i < s → In (z .known) i
       lower-known i p q =
-          ⊎-elim (informed i p (omega (arith, x .most)) (λ e. omega arith)) (λ y. absurd (low i q (record { least = p; most = omega (arith, x .most); up = y }))) (in? (r .stopped) i)
+          ⊎-elim (informed i p (omega (arith, x .most)) (λ e. omega arith)) (λ y. absurd (low i q (record { least = p; most = omega (arith, x .most); up = y }))) (either (has (r .stopped) i))
 
       -- it would take over
       taken-over : (q : State) (a : Record) → Accepted (overIn q a .outcome)
@@ -214,7 +214,7 @@ module _ (w : ℕ → Type 0) (r : Run) (h : Held w r) (o : Owed (viewOf w r)) (
               ⊎-elim (subset-has (z .known) (z .yes) i k)
               (λ f. let y : Runs r i = others-run i (p .least) l ne f in
               ⊎-elim (λ m. absurd (held Start s i (p .least) m)) (⊎-elim (held Yes i s (x .least)) (λ m. absurd (in-none i (rw n at (held No i s (x .least) m))))) (due i y ne .asked e (rw q tt)))
-              (in? (z .known) i)
+              (either (has (z .known) i))
 
           go : (b : Bool) → (not (eqb (z .no) 0) || not (subset (z .known) (z .yes))) ≡ b
               → Accepted (cond b (taken (inState z A) 8 (toAll z)) (cond (subset (othersOf (z .n) (z .number)) (z .yes)) (taken (inState z P) 4 (toAll z)) (refused z 5)) .outcome)
@@ -268,7 +268,7 @@ module _ (w : ℕ → Type 0) (r : Run) (h : Held w r) (o : Owed (viewOf w r)) (
   -- ---- the lowest running site is there
 
   runs? : (i : ℕ) → Runs r i ⊎ (Runs r i → ⊥)
-  runs? i = go (decLt 0 i) (decLt (r .n) i) (in? (r .stopped) i)
+  runs? i = go (decLt 0 i) (decLt (r .n) i) (either (has (r .stopped) i))
     where
       go : Dec (0 < i) → Dec (r .n < i) → In (r .stopped) i ⊎ (has (r .stopped) i ≡ false) → Runs r i ⊎ (Runs r i → ⊥)
       go (no p) q d = inr (λ x. absurd (omega (arith, x .least)))

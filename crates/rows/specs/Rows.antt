@@ -13,10 +13,10 @@ use Rattle.site.specs.declared.Vote.the-variants.{Yes}
 use Rattle.site.specs.declared.Site.{Site}
 use Rattle.site.specs.declared.Step.{Step}
 use Rattle.site.specs.declared.Step.the-variants.{Begin, Start, Deliver, TakeOver, Conclude}
-use Rattle.site.specs.declared.Outcome.the-variants.{Taken, Passed, Refused}
+use Rattle.site.specs.declared.Outcome.the-variants.{Taken, Passed}
 use Rattle.site.specs.declared.Answer.{Answer}
-use Rattle.site.specs.Site.{inState, following, withAcked, soundOf}
-use Rattle.site.specs.Step.{stepOf}
+use Rattle.site.specs.Site.{inState, following, withAcked, soundOf, start, yes, move-p, move-w, ack, abort}
+use Rattle.site.specs.Step.{stepOf, none, refusal}
 use Rattle.run.specs.declared.Ran.{Ran}
 use Rattle.run.specs.Run.{freshSite, freshRun}
 use Rattle.run.specs.Event.{refusedRun, freshOf}
@@ -60,25 +60,6 @@ all says (row ∷ rows) = says row × all says rows
 
 -- ---- the words of the rows
 
--- the messages by their numbers
-abbrev pub start : ℕ
-start = 1
-
-abbrev pub yes : ℕ
-yes = 2
-
-abbrev pub move-p : ℕ
-move-p = 4
-
-abbrev pub move-w : ℕ
-move-w = 5
-
-abbrev pub ack : ℕ
-ack = 6
-
-abbrev pub abort : ℕ
-abort = 8
-
 -- taken: the record then, the kind and the receivers of what is written, how many messages, how many sites awaited
 abbrev pub taken : Site → ℕ → ℕ → ℕ → ℕ → Answer
 taken s kind to written awaited =
@@ -88,12 +69,9 @@ taken s kind to written awaited =
 abbrev pub quietly : Site → Answer
 quietly s = taken s 0 0 0 0
 
--- passed over or refused: the record as it was, no message, nobody awaited
+-- passed over: the record as it was, no message, nobody awaited
 abbrev pub passed : Site → Answer
-passed s = record { site = s; outcome = Passed; kind = 0; to = 0; counts = record { written = 0; awaited = 0 } }
-
-abbrev pub refused : ℕ → Site → Answer
-refused g s = record { site = s; outcome = Refused g; kind = 0; to = 0; counts = record { written = 0; awaited = 0 } }
+passed s = record { site = s; outcome = Passed; kind = 0; to = 0; counts = none }
 
 -- the record of a site that has just taken over
 abbrev pub leading : Site → Site
@@ -114,11 +92,11 @@ starred =
     -- *3 begin yes, n = 8, site 1: 7 messages, 7 awaited
     ∷ step (λ s. s ≡ freshSite 8 1) (Begin Yes) (λ s. taken (inState s W) start (othersOf 8 1) 7 7)
     -- *4 begin at site 2: 5
-    ∷ any (λ (v : Vote). step (λ s. s .number ≡ 2) (Begin v) (refused 5))
+    ∷ any (λ (v : Vote). step (λ s. s .number ≡ 2) (Begin v) (λ s. refusal s 5))
     -- *5 Start yes at q: w, one Yes
     ∷ step (λ s. (1 < s .number) × (s .leader ≡ 1) × (s .state ≡ Q)) (Start 1 Yes) (λ s. taken (inState s W) yes (weightOf 1) 1 0)
     -- *6 Move-p at q: 6
-    ∷ any (λ (j : ℕ). step (λ s. (j < s .number) × (s .leader ≤ j) × (s .state ≡ Q)) (Deliver move-p j) (refused 6))
+    ∷ any (λ (j : ℕ). step (λ s. (j < s .number) × (s .leader ≤ j) × (s .state ≡ Q)) (Deliver move-p j) (λ s. refusal s 6))
     -- *7 site 3 follows 2, Move-p from 1: passed over
     ∷ step (λ s. (s .number ≡ 3) × (s .leader ≡ 2)) (Deliver move-p 1) passed
     -- *8 Move-w from 2 at p, site 3: w, Ack, follows 2

@@ -1,27 +1,22 @@
 -- The events of a run (01, "The run"): what each does, and the grounds 1 to 6 in their order.
 -- Assumes nothing.
 use Prim.Native.Nat.{ℕ}
-use mathlib.Core.Bool.{Bool, true, false, cond, not, _&&_}
+use mathlib.Core.Bool.{Bool, true, cond, not, _&&_}
 use lib.Dec.{leb}
-use Rattle.sets.specs.Sets.{has, both, countOf}
+use Rattle.sets.specs.Sets.{both, countOf}
 use Rattle.site.specs.declared.Outcome.{Outcome}
 use Rattle.site.specs.declared.Outcome.the-variants.{Taken, Passed, Refused}
 use Rattle.site.specs.declared.Step.{Step}
 use Rattle.site.specs.declared.Step.the-variants.{Begin, Start, Deliver, Notice, TakeOver, Conclude}
 use Rattle.site.specs.declared.Answer.{Answer}
-use Rattle.site.specs.declared.Counts.{Counts}
-use Rattle.site.specs.Site.{namesOf}
-use Rattle.site.specs.Step.{stepOf}
+use Rattle.site.specs.Site.{start, namesOf}
+use Rattle.site.specs.Step.{stepOf, none}
 use Rattle.run.specs.declared.Run.{Run}
 use Rattle.run.specs.declared.Event.{Event}
 use Rattle.run.specs.declared.Event.the-variants.{Act, Stop, Cut}
 use Rattle.run.specs.declared.Ran.{Ran}
 use Rattle.run.specs.Run.{siteAt, outstanding, hasStopped, knows, withRecord, takenOut, sentBy, stoppedAt, freshRun}
 use Rattle.run.specs.Sound.{soundRun}
-
--- "zero counts": no message written, nobody awaited
-abbrev pub none : Counts
-none = record { written = 0; awaited = 0 }
 
 -- "Refused: run and site come back unchanged, no message, zero counts"
 abbrev pub refusedRun : Run → ℕ → Ran
@@ -35,7 +30,7 @@ takenRun r m = record { run = r; outcome = Taken; counts = record { written = m;
 
 -- "fresh n not 2..8" is ground 1, and "A refused fresh is the same with n 0 in run and records"
 unfoldable pub freshOf : ℕ → Ran
-freshOf n = cond (leb 2 n && leb n 8) (record { run = freshRun n; outcome = Taken; counts = none }) (refusedRun (freshRun 0) 1)
+freshOf n = cond (leb 2 n && leb n 8) (takenRun (freshRun n) 0) (refusedRun (freshRun 0) 1)
 
 -- ---- who acts, and what must be there before
 
@@ -46,7 +41,7 @@ isActor r s = leb 1 s && leb s (r .n)
 -- ground 4 is given where this is false: a delivered message is outstanding; a noticed site has stopped and is not yet known to have
 abbrev pub isThere : Run → ℕ → Step → Bool
 isThere r s (Begin v) = true
-isThere r s (Start from v) = outstanding r 1 from s
+isThere r s (Start from v) = outstanding r start from s
 isThere r s (Deliver k from) = outstanding r k from s
 isThere r s (Notice o) = hasStopped r o && not (knows r s o)
 isThere r s TakeOver = true
@@ -57,7 +52,7 @@ isThere r s Conclude = true
 -- "deliver (taken out of the network, even if passed over)"
 abbrev pub delivered : Run → ℕ → Step → Run
 delivered r s (Begin v) = r
-delivered r s (Start from v) = takenOut r 1 from s
+delivered r s (Start from v) = takenOut r start from s
 delivered r s (Deliver k from) = takenOut r k from s
 delivered r s (Notice o) = r
 delivered r s TakeOver = r
@@ -78,8 +73,8 @@ ranStep Passed r s t a = record { run = acted r s t a; outcome = Passed; counts 
 ranStep (Refused g) r s t a = refusedRun r g
 
 abbrev pub ranCut : Outcome → Run → ℕ → Answer → ℕ → Ran
-ranCut Taken r s a x = record { run = cutShort r s a x; outcome = Taken; counts = record { written = countOf (both (a .to) x); awaited = 0 } }
-ranCut Passed r s a x = record { run = cutShort r s a x; outcome = Taken; counts = record { written = countOf (both (a .to) x); awaited = 0 } }
+ranCut Taken r s a x = takenRun (cutShort r s a x) (countOf (both (a .to) x))
+ranCut Passed r s a x = takenRun (cutShort r s a x) (countOf (both (a .to) x))
 ranCut (Refused g) r s a x = refusedRun r g
 
 -- ---- the event
@@ -92,7 +87,7 @@ grounded r s t x =
 -- grounds 2 and 3 for a stop
 unfoldable pub stopped : Run → ℕ → Ran
 stopped r s =
-    cond (isActor r s) (cond (hasStopped r s) (refusedRun r 3) (record { run = stoppedAt r s; outcome = Taken; counts = none })) (refusedRun r 2)
+    cond (isActor r s) (cond (hasStopped r s) (refusedRun r 3) (takenRun (stoppedAt r s) 0)) (refusedRun r 2)
 
 -- an event, with grounds 2 to 6: a whole step, a stop, or "a stop during any of the first five"
 abbrev pub happened : Run → Event → Ran

@@ -55,8 +55,8 @@ small-delivered r s TakeOver h = h
 small-delivered r s Conclude h = h
 
 small-stopped : (r : Run) (s : ℕ) → Small (r .net) → Small (stoppedAt r s .net)
-unfolding without
-small-stopped r s h p = rw (entry-stopped r s p) (minus-lt _ _ (h p))
+unfolding without stoppedAt
+small-stopped r s h p = rw (entry-stopped (r .net) s p) (minus-lt _ _ (h p))
 
 small-sent : (r : Run) (k s to : ℕ) → to < 2 ^ 8 → Small (r .net) → Small (sentBy r k s to .net)
 unfolding sentBy

@@ -23,7 +23,7 @@ use Rattle.run.specs.declared.Event.the-variants.{Act, Stop, Cut}
 use Rattle.run.specs.declared.Ran.{Ran}
 use Rattle.run.specs.Run.{siteAt, outstanding, hasStopped, stoppedAt}
 use Rattle.run.specs.Sound.{soundRun}
-use Rattle.run.specs.Event.{none, refusedRun, isActor, isThere, acted, cutShort, ranStep, ranCut, grounded, stopped, happened, goesOf, eventOf}
+use Rattle.run.specs.Event.{refusedRun, takenRun, isActor, isThere, acted, cutShort, ranStep, ranCut, grounded, stopped, happened, goesOf, eventOf}
 use Rattle.run.specs.After.{acceptedBy}
 use Rattle.run.specs.SoundLaws.{n-most}
 use Rattle.run.specs.Views.{Shape, isPlace, parts-place, delivers, posts, out-stopped, n-acted, set-acted, site-acted, site-acted-other, out-acted, n-cut, set-cut, site-cut, out-cut}
@@ -47,14 +47,9 @@ pub data Happens (r : Run) : Event → Ran → Type 0 where
   refuses : {e : Event} {g : ℕ} → Happens r e (refusedRun r g)
   acts : {s : ℕ} {t : Step} {o : Outcome} → Acting r s t → stepOf (siteAt r s) t .outcome ≡ o
       → Happens r (Act s t) (record { run = acted r s t (stepOf (siteAt r s) t); outcome = o; counts = stepOf (siteAt r s) t .counts })
-  stops : {s : ℕ} → Able r s → Happens r (Stop s) (record { run = stoppedAt r s; outcome = Taken; counts = none })
+  stops : {s : ℕ} → Able r s → Happens r (Stop s) (takenRun (stoppedAt r s) 0)
   cuts : {s : ℕ} {t : Step} {x : ℕ} → Acting r s t
-      → Happens r (Cut s t x)
-      (record {
-        run = cutShort r s (stepOf (siteAt r s) t) x;
-        outcome = Taken;
-        counts = record { written = countOf (both (stepOf (siteAt r s) t .to) x); awaited = 0 };
-      })
+      → Happens r (Cut s t x) (takenRun (cutShort r s (stepOf (siteAt r s) t) x) (countOf (both (stepOf (siteAt r s) t .to) x)))
 
 module _ (r : Run) (s : ℕ) (t : Step) (h : soundRun r ≡ true) where
   -- grounds 2 to 4, and then what is known
@@ -95,7 +90,7 @@ unfolding stopped
 does-stop r s h = go (isActor r s) (hasStopped r s) refl refl
   where
     go : (a b : Bool) → isActor r s ≡ a → hasStopped r s ≡ b
-        → Happens r (Stop s) (cond a (cond b (refusedRun r 3) (record { run = stoppedAt r s; outcome = Taken; counts = none })) (refusedRun r 2))
+        → Happens r (Stop s) (cond a (cond b (refusedRun r 3) (takenRun (stoppedAt r s) 0)) (refusedRun r 2))
     go true true p q = refuses
     go true false p q = stops (record { sound = h; actor = p; runs = q })
     go false b p q = refuses

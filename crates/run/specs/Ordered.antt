@@ -20,7 +20,7 @@ use Rattle.site.specs.declared.Answer.{Answer}
 use Rattle.site.specs.Site.{endsOf}
 use Rattle.site.specs.Step.{stepOf}
 use Rattle.site.specs.SiteFacts.{lowerKnown, Follows, Grows, Concludes, Message}
-use Rattle.site.specs.SiteFacts.Follows.{same, obeys, leads}
+use Rattle.site.specs.SiteFacts.Follows.{same, obeys, itself}
 use Rattle.site.specs.SiteFacts.Grows.{kept, gained}
 use Rattle.site.specs.SiteSteps.{sound-parts as site-parts, parts-ends}
 use Rattle.site.specs.SiteMessages.{other-parts, lower-known, known-lower, message}
@@ -134,7 +134,7 @@ module _ (r : Run) (s : ℕ) (t : Step) (g : Sound r) (o : Ordered r) (x : Actin
     unfolding leaderOf knows
     knew same e j p q = o .lower s j (actor-in (x .able)) (x .able .runs) e p q
     knew (obeys l m) e j p q = absurd (omega (arith, here .number))
-    knew (leads l k) e j p q = lower-known me (site-parts me (here .sound)) k j p (rw (here .number) q)
+    knew (itself l k) e j p q = lower-known me (site-parts me (here .sound)) k j p (rw (here .number) q)
 
     -- and the leaders in order: a site that comes to lead knows all lower ones stopped, and forgets none
     pub ordered-step : Ordered w

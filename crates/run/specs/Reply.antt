@@ -2,13 +2,13 @@
 -- Assumes nothing.
 use Prim.Native.Nat.{ℕ, zero, suc, _≤_}
 use lib.Dec.{leb}
-use lib.ListN.{length, set, length-set}
+use lib.ListN.{length, length-set}
 use borrow.Author.Tests.{le-leb, leb-true}
 use mathlib.Core.Bool.{Bool, true, false, cond, _&&_, true≢false, false≢true}
 use mathlib.Core.List.{List}
 use mathlib.Core.Path.{_≡_, refl, sym, ap}
 use native.Mathlib.Omega.{arith}
-use Rattle.sets.specs.Sets.{has, union, minus, both, without, countOf}
+use Rattle.sets.specs.Sets.{has, minus, both, countOf}
 use Rattle.sets.specs.SetLaws.{has-minus}
 use Rattle.site.specs.declared.Outcome.{Outcome}
 use Rattle.site.specs.declared.Outcome.the-variants.{Taken, Passed, Refused}
@@ -16,14 +16,14 @@ use Rattle.site.specs.declared.Step.{Step}
 use Rattle.site.specs.declared.Step.the-variants.{Begin, Start, Deliver, Notice, TakeOver, Conclude}
 use Rattle.site.specs.declared.Site.{Site}
 use Rattle.site.specs.declared.Answer.{Answer}
-use Rattle.site.specs.Site.{namesOf}
+use Rattle.site.specs.Site.{start, namesOf}
 use Rattle.site.specs.Step.{stepOf}
 use Rattle.run.specs.declared.Run.{Run}
 use Rattle.run.specs.declared.Event.the-variants.{Act, Cut}
 use Rattle.run.specs.declared.Ran.{Ran}
 use Rattle.run.specs.declared.Reply.{Reply}
 use Rattle.run.specs.declared.Reply.the-variants.{Good, Bad}
-use Rattle.run.specs.Run.{siteAt, place, receivers, outstanding, knows, hasStopped, withRecord, takenOut, sentBy, withNet}
+use Rattle.run.specs.Run.{siteAt, receivers, outstanding, knows, hasStopped, takenIn, sentIn, withRecord, withNet, takenOut, sentBy}
 use Rattle.run.specs.Event.{isActor, isThere, delivered, acted, cutShort, ranStep, ranCut, refusedRun, takenRun, grounded, happened}
 
 -- ---- a step and the network
@@ -31,7 +31,7 @@ use Rattle.run.specs.Event.{isActor, isThere, delivered, acted, cutShort
 -- what a step is about is there: its message in the network, its stopped site among the news
 abbrev pub thereIn : Step → ℕ → ℕ → List ℕ → Bool
 thereIn (Begin v) s news net = true
-thereIn (Start from v) s news net = has (receivers net 1 from) s
+thereIn (Start from v) s news net = has (receivers net start from) s
 thereIn (Deliver k from) s news net = has (receivers net k from) s
 thereIn (Notice o) s news net = has news o
 thereIn TakeOver s news net = true
@@ -50,8 +50,8 @@ there-in r s Conclude = refl
 -- the network without the message that a step delivers
 abbrev pub deliveredIn : List ℕ → ℕ → Step → List ℕ
 deliveredIn net s (Begin v) = net
-deliveredIn net s (Start from v) = set net (place 1 from) (without (receivers net 1 from) s)
-deliveredIn net s (Deliver k from) = set net (place k from) (without (receivers net k from) s)
+deliveredIn net s (Start from v) = takenIn net start from s
+deliveredIn net s (Deliver k from) = takenIn net k from s
 deliveredIn net s (Notice o) = net
 deliveredIn net s TakeOver = net
 deliveredIn net s Conclude = net
@@ -72,10 +72,6 @@ delivered-length net s (Deliver k from) = length-set net _ _
 delivered-length net s (Notice o) = refl
 delivered-length net s TakeOver = refl
 delivered-length net s Conclude = refl
-
--- the network with messages of one kind from a sender to a set of sites
-abbrev pub sentIn : List ℕ → ℕ → ℕ → ℕ → List ℕ
-sentIn net k s to = set net (place k s) (union (receivers net k s) to)
 
 -- an answer is put into a run by its record and its network
 pub acted-in : (r : Run) (s : ℕ) (t : Step) (a : Answer)

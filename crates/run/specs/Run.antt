@@ -54,6 +54,20 @@ outstanding r k s j = has (receivers (r .net) k s) j
 unfoldable pub hasStopped : Run → ℕ → Bool
 hasStopped r i = has (r .stopped) i
 
+-- ---- what an event may do to a network
+
+-- without the message of kind k from a site to s
+abbrev pub takenIn : List ℕ → ℕ → ℕ → ℕ → List ℕ
+takenIn net k from s = set net (place k from) (without (receivers net k from) s)
+
+-- with messages of kind k from site s to a set of sites
+abbrev pub sentIn : List ℕ → ℕ → ℕ → ℕ → List ℕ
+sentIn net k s to = set net (place k s) (union (receivers net k s) to)
+
+-- without what is addressed to site s
+abbrev pub stoppedIn : List ℕ → ℕ → List ℕ
+stoppedIn net s = map (λ (m : ℕ). without m s) net
+
 -- ---- what an event may do to a run
 
 -- another record for site s. Only sites of 1 to n act (ground 2), and no other record changes (`frame` in RunLaws): so places above n
@@ -67,22 +81,16 @@ withNet r net = record { n = r .n; stopped = r .stopped; sites = r .sites; net =
 
 -- the message of kind k from a site to s is taken out of the network
 unfoldable pub takenOut : Run → ℕ → ℕ → ℕ → Run
-takenOut r k from s = withNet r (set (r .net) (place k from) (without (receivers (r .net) k from) s))
+takenOut r k from s = withNet r (takenIn (r .net) k from s)
 
 -- site s writes messages of kind k to a set of sites: "a message to a stopped site is counted as written and
 -- doesn't enter the network"
 unfoldable pub sentBy : Run → ℕ → ℕ → ℕ → Run
-sentBy r k s to = withNet r (set (r .net) (place k s) (union (receivers (r .net) k s) (minus to (r .stopped))))
+sentBy r k s to = withNet r (sentIn (r .net) k s (minus to (r .stopped)))
 
 -- site s stops: "a stop removes what is addressed to the site"
 unfoldable pub stoppedAt : Run → ℕ → Run
-stoppedAt r s =
-    record {
-      n = r .n;
-      stopped = withSite (r .stopped) s;
-      sites = r .sites;
-      net = map (λ (m : ℕ). without m s) (r .net);
-    }
+stoppedAt r s = record { n = r .n; stopped = withSite (r .stopped) s; sites = r .sites; net = stoppedIn (r .net) s }
 
 -- ---- "Fresh: all in q, following 1, all sets empty, no messages"
 

@@ -3,7 +3,7 @@
 use Prim.Native.Nat.{ℕ, zero, suc, _+_, _-_, _*_, _/_, _%_, _^_, _≤_, _<_}
 use mathlib.Core.Bool.{Bool, true, false, cond, not, _&&_, _||_}
 use mathlib.Core.Path.{_≡_, refl, sym, ap, subst, _∙_}
-use mathlib.Core.Logic.{_≢_}
+use mathlib.Core.Logic.{_≢_, _⊎_, inl, inr}
 use native.Mathlib.Omega.{arith}
 use native.Mathlib.Decide.{ℕ-discrete}
 use lib.Dec.{eqb, leb, ltb}
@@ -11,7 +11,7 @@ use lib.ListN.{getD}
 use borrow.Author.Tests.{lt-ltb, ltb-true, le-leb, lt-leb, leb-true, leb-false, eq-eqb, ne-eqb, eqb-true, eqb-false}
 use Rattle.sets.specs.Sets.{isSite, has, weightOf, minus, subset, allOf, othersOf, belowOf}
 use Rattle.sets.specs.SetLaws.{is-site, site-is, has-site, has-none, has-weight, has-minus, has-all, has-others, has-below, subset-has, subset-of}
-use Rattle.sets.specs.Truths.{and-l, and-r, and-i, not-e, clash, Either, holds, failed, either}
+use Rattle.sets.specs.Truths.{and-l, and-r, and-i, not-e, clash, either}
 use Rattle.site.specs.Site.{soundOf, isOrder}
 use Rattle.site.specs.SiteFacts.{Ends}
 use Rattle.site.specs.SiteFacts.Ends.{start, yes as ends-yes, no as ends-no, move-p, move-w, ack, commit, abort}
@@ -149,9 +149,9 @@ messages-sound : (r : Run) → Shape r → every 72 (soundEntry r) ≡ true → 
 unfolding outstanding soundEntry hasStopped
 messages-sound r g e k s j h = go (either (isPlace k s))
   where
-    go : Either (isPlace k s) → SoundMessage r k s j
-    go (failed n) = absurd (clash h (ap (λ (m : ℕ). has m j) (none-past (r .net) k s (g .net) n) ∙ has-none j))
-    go (holds p) =
+    go : isPlace k s ≡ true ⊎ isPlace k s ≡ false → SoundMessage r k s j
+    go (inr n) = absurd (clash h (ap (λ (m : ℕ). has m j) (none-past (r .net) k s (g .net) n) ∙ has-none j))
+    go (inl p) =
         let q : Place k s = place-parts k s p in
         let u : place k s ≡ 8 * (k - 1) + (s - 1) = place-is k s p in
         let a : place k s / 8 + 1 ≡ k = omega arith in

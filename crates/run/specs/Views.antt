@@ -5,7 +5,7 @@ use Prim.Native.Nat.{ℕ, _+_, _-_, _*_, _≤_}
 use mathlib.Core.Bool.{Bool, true, false, cond, not, _&&_, _||_, false≢true, or-false, and-true, and-assoc}
 use mathlib.Core.Path.{_≡_, refl, sym, ap, _∙_}
 use mathlib.Core.Logic.{_≢_}
-use mathlib.Core.List.{List, map}
+use mathlib.Core.List.{List}
 use native.Mathlib.Omega.{arith}
 use native.Mathlib.Decide.{ℕ-discrete}
 use lib.Dec.{eqb, leb}
@@ -20,7 +20,7 @@ use Rattle.site.specs.declared.Step.{Step}
 use Rattle.site.specs.declared.Step.the-variants.{Begin, Start, Deliver, Notice, TakeOver, Conclude}
 use Rattle.site.specs.declared.Answer.{Answer}
 use Rattle.run.specs.declared.Run.{Run}
-use Rattle.run.specs.Run.{noSite, siteAt, isKind, place, receivers, outstanding, hasStopped, withRecord, withNet, takenOut, sentBy, stoppedAt}
+use Rattle.run.specs.Run.{noSite, siteAt, isKind, place, receivers, outstanding, hasStopped, stoppedIn, withRecord, withNet, takenOut, sentBy, stoppedAt}
 use Rattle.run.specs.Event.{delivered, acted, cutShort}
 
 -- a run has eight places for records and 72 for messages, and keeps them
@@ -192,15 +192,13 @@ unfolding without minus
 none-without s = refl
 
 -- a stop takes the site out of every set of receivers
-pub entry-stopped : (r : Run) (s p : ℕ) → getD (stoppedAt r s .net) p 0 ≡ without (getD (r .net) p 0) s
-unfolding stoppedAt
-entry-stopped r s p =
-    ap (getD (map (λ (m : ℕ). without m s) (r .net)) p) (sym (none-without s)) ∙ List·getD-map (λ (m : ℕ). without m s) (r .net) p 0
+pub entry-stopped : (net : List ℕ) (s p : ℕ) → getD (stoppedIn net s) p 0 ≡ without (getD net p 0) s
+entry-stopped net s p = ap (getD (stoppedIn net s) p) (sym (none-without s)) ∙ List·getD-map (λ (m : ℕ). without m s) net p 0
 
 -- so it takes out what is addressed to the site, and nothing else
 pub out-stopped : (r : Run) (s x y z : ℕ) → outstanding (stoppedAt r s) x y z ≡ (outstanding r x y z && not (eqb z s))
-unfolding outstanding
-out-stopped r s x y z = ap (λ (m : ℕ). has m z) (entry-stopped r s (place x y)) ∙ has-without (receivers (r .net) x y) s z
+unfolding outstanding stoppedAt
+out-stopped r s x y z = ap (λ (m : ℕ). has m z) (entry-stopped (r .net) s (place x y)) ∙ has-without (receivers (r .net) x y) s z
 
 -- ---- stopped sites
 

@@ -3,7 +3,7 @@
 -- Assumes nothing.
 use Prim.Native.Nat.{ℕ, zero, suc, _+_, _-_, _*_, _/_, _%_, _^_, _<_, _≤_}
 use mathlib.Core.Bool.{Bool, true, false, cond, not, _&&_, _||_, true≢false, false≢true}
-use mathlib.Core.Path.{_≡_, refl, sym, ap, subst, _∙_}
+use mathlib.Core.Path.{_≡_, refl, sym, ap, _∙_}
 use native.Mathlib.Nat.{mod-lt, pow-suc, pow-succ', div-one, div-div-eq-div-mul, lt-of-le-of-lt, one-mul}
 use native.Mathlib.Omega.{arith}
 use native.Mathlib.Decide.{decLt, ℕ-discrete}
@@ -12,7 +12,8 @@ use lib.Arith.{lt-one}
 use lib.Pow.{pow-pos, shl-exact}
 use lib.Count.{ones, ones-step, trailingZeros, under}
 use lib.Bits.{bitAnd, bitOr, bitXor, and-shr, and-mod, or-shr, or-mod, xor-shr, xor-mod, and-le-l}
-use borrow.Author.Tests.{le-leb, lt-leb, lt-ltb, le-ltb, leb-true, leb-false, eq-eqb, ne-eqb, eqb-true, eqb-false}
+use borrow.Author.Tests.{le-leb, lt-leb, lt-ltb, le-ltb, leb-true, eq-eqb, ne-eqb, eqb-true}
+use Rattle.sets.specs.Truths.{and-l, and-r}
 use Rattle.sets.specs.Sets.{bit, isSite, has, weightOf, union, both, minus, withSite, without, subset, allOf, othersOf, belowOf, countOf, lowestOf}
 
 -- a one moved up n of eight places is 2 ^ n
@@ -130,19 +131,14 @@ pub record Site (j : ℕ) : Type 0 where
   pub least : 1 ≤ j
   pub most : j ≤ 8
 
-both-true : (a b : Bool) → (a && b) ≡ true → (a ≡ true) × (b ≡ true)
-both-true true true e = (refl, refl)
-both-true true false e = absurd (false≢true e)
-both-true false b e = absurd (false≢true e)
-
 pub is-site : (j : ℕ) → isSite j ≡ true → Site j
 unfolding isSite
-is-site j e = record { least = leb-true 1 j (both-true (leb 1 j) (leb j 8) e .0); most = leb-true j 8 (both-true (leb 1 j) (leb j 8) e .1) }
+is-site j e = record { least = leb-true 1 j (and-l (leb 1 j) (leb j 8) e); most = leb-true j 8 (and-r (leb 1 j) (leb j 8) e) }
 
 -- only sites are members
 pub has-site : (m j : ℕ) → has m j ≡ true → Site j
 unfolding has
-has-site m j e = is-site j (both-true (isSite j) (bit m (j - 1)) e .0)
+has-site m j e = is-site j (and-l (isSite j) (bit m (j - 1)) e)
 
 -- the empty set has no member
 pub has-none : (j : ℕ) → has 0 j ≡ false
@@ -263,7 +259,7 @@ ext a b ha hb e =
 -- a is within b exactly when every member of a is one of b
 pub subset-has : (a b j : ℕ) → subset a b ≡ true → has a j ≡ true → has b j ≡ true
 unfolding subset both
-subset-has a b j e h = both-true (has a j) (has b j) (sym has-and ∙ h) .1
+subset-has a b j e h = and-r (has a j) (has b j) (sym has-and ∙ h)
   where
     has-and : has a j ≡ (has a j && has b j)
     has-and = ap (λ (x : ℕ). has x j) (sym (eqb-true (bitAnd a b) a e)) ∙ has-both a b j
@@ -386,7 +382,3 @@ lowest-is m p h =
         below : (i : ℕ) → i < t + 1 → (b : Bool) → isSite i ≡ b → has m i ≡ false
         below i g true e = simp e (l .below (i - 1) (omega (arith, is-site i e .least)))
         below i g false e = simp e
-
-pub lowest-none : lowestOf 0 ≡ 0
-unfolding lowestOf
-lowest-none = refl

@@ -1,8 +1,8 @@
 -- Sets of sites as masks: what each operation computes. What it means, member by member, is in SetLaws.
 -- Site j has weight 2 ^ (j - 1) (01, "Event record"). Sites are 1 to 8: any other number is in no set.
 -- Assumes nothing.
-use Prim.Native.Nat.{ℕ, zero, suc, _+_, _-_, _/_, _%_, _^_}
-use mathlib.Core.Bool.{Bool, true, false, cond, _&&_}
+use Prim.Native.Nat.{ℕ, _+_, _-_, _/_, _%_, _^_}
+use mathlib.Core.Bool.{Bool, cond, _&&_}
 use lib.Dec.{eqb, leb, ltb}
 use lib.Bits.{bitAnd, bitOr, bitXor}
 use lib.Count.{ones, trailingZeros}

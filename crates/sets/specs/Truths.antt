@@ -1,4 +1,4 @@
--- Tests that hold: taking `&&`, `||` and `not` apart and putting them together.
+-- Tests that hold or fail: taking `&&`, `||` and `not` apart and putting them together.
 -- Assumes nothing.
 use mathlib.Core.Bool.{Bool, true, false, not, _&&_, _||_, true≢false, false≢true}
 use mathlib.Core.Path.{_≡_, refl, sym, _∙_}
@@ -28,9 +28,13 @@ pub or-r : (x y : Bool) → y ≡ true → (x || y) ≡ true
 or-r true y e = refl
 or-r false y e = e
 
-pub not-i : (x : Bool) → x ≡ false → not x ≡ true
-not-i true e = sym e
-not-i false e = refl
+pub or-none : (x y : Bool) → (x || y) ≡ false → (x ≡ false) × (y ≡ false)
+or-none true y e = absurd (true≢false e)
+or-none false y e = (refl, e)
+
+pub and-none : (x y : Bool) → (x && y) ≡ false → (x ≡ false) ⊎ (y ≡ false)
+and-none true y e = inr e
+and-none false y e = inl refl
 
 pub not-e : (x : Bool) → not x ≡ true → x ≡ false
 not-e true e = absurd (false≢true e)
@@ -46,13 +50,9 @@ fails true f = absurd (f refl)
 fails false f = refl
 
 -- a test holds or fails
-pub data Either (x : Bool) : Type 0 where
-  holds : x ≡ true → Either x
-  failed : x ≡ false → Either x
-
-pub either : (x : Bool) → Either x
-either true = holds refl
-either false = failed refl
+pub either : (x : Bool) → x ≡ true ⊎ x ≡ false
+either true = inl refl
+either false = inr refl
 
 -- tests that hold together are the same
 pub same : (x y : Bool) → (x ≡ true → y ≡ true) → (y ≡ true → x ≡ true) → x ≡ y

@@ -2,7 +2,7 @@
 -- leader that gathers acknowledgements. Only `collects` (Site) asks for site 1: in w that site gathers votes.
 -- Assumes nothing.
 use Prim.Native.Nat.{ℕ}
-use mathlib.Core.Bool.{Bool, true, false, cond, not, _&&_, _||_}
+use mathlib.Core.Bool.{cond, _&&_, _||_}
 use lib.Dec.{eqb, ltb}
 use Rattle.sets.specs.Sets.{belowOf, withSite, weightOf, subset}
 use Rattle.site.specs.declared.State.{State}
@@ -11,7 +11,7 @@ use Rattle.site.specs.declared.Order.{Order}
 use Rattle.site.specs.declared.Order.the-variants.{To, Over, Conflict}
 use Rattle.site.specs.declared.Site.{Site}
 use Rattle.site.specs.declared.Done.{Done}
-use Rattle.site.specs.Site.{isP, inState, following, withAcked, toAll, collects, awaitedOf, refused, passed, taken}
+use Rattle.site.specs.Site.{isP, inState, following, withAcked, move-p, move-w, ack, commit, abort, toAll, collects, awaitedOf, refused, passed, taken}
 
 -- ---- orders, state by state
 
@@ -48,13 +48,13 @@ abortAt A = Over
 abortAt C = Conflict
 
 abbrev pub orderAt : ℕ → State → Order
-orderAt k q = cond (eqb k 4) (movePAt q) (cond (eqb k 5) (moveWAt q) (cond (eqb k 7) (commitAt q) (abortAt q)))
+orderAt k q = cond (eqb k move-p) (movePAt q) (cond (eqb k move-w) (moveWAt q) (cond (eqb k commit) (commitAt q) (abortAt q)))
 
 -- ---- an order obeyed
 
 -- a Move is answered by an Ack to the sender
 abbrev pub replied : Site → ℕ → ℕ → Done
-replied s k from = cond (eqb k 4 || eqb k 5) (taken s 6 (weightOf from)) (taken s 0 0)
+replied s k from = cond (eqb k move-p || eqb k move-w) (taken s ack (weightOf from)) (taken s 0 0)
 
 -- the sender becomes the leader followed, also where the order is passed over in its state
 abbrev pub obeyed : Order → Site → ℕ → ℕ → Done
@@ -74,11 +74,11 @@ ackOf s from = cond (collects s) (taken (withAcked s (withSite (s .acked) from))
 
 -- "it leads, acknowledgements cleared. In q it goes to a. Then to all: Abort in a, Commit in c, Move-w in w, Move-p in p"
 abbrev pub overIn : State → Site → Done
-overIn Q s = taken (withAcked (following (inState s A) (s .number)) 0) 8 (toAll s)
-overIn W s = taken (withAcked (following s (s .number)) 0) 5 (toAll s)
-overIn P s = taken (withAcked (following s (s .number)) 0) 4 (toAll s)
-overIn A s = taken (withAcked (following s (s .number)) 0) 8 (toAll s)
-overIn C s = taken (withAcked (following s (s .number)) 0) 7 (toAll s)
+overIn Q s = taken (withAcked (following (inState s A) (s .number)) 0) abort (toAll s)
+overIn W s = taken (withAcked (following s (s .number)) 0) move-w (toAll s)
+overIn P s = taken (withAcked (following s (s .number)) 0) move-p (toAll s)
+overIn A s = taken (withAcked (following s (s .number)) 0) abort (toAll s)
+overIn C s = taken (withAcked (following s (s .number)) 0) commit (toAll s)
 
 -- "Take over, when following a lower site and all lower ones are known stopped"; else ground 5
 unfoldable pub takeOverOf : Site → Done
@@ -89,5 +89,5 @@ takeOverOf s = cond (ltb (s .leader) (s .number) && subset (belowOf (s .number))
 unfoldable pub settleOf : Site → Done
 settleOf s =
     cond (collects s && eqb (awaitedOf s) 0)
-    (cond (isP (s .state)) (taken (inState s C) 7 (toAll s)) (taken (inState s A) 8 (toAll s)))
+    (cond (isP (s .state)) (taken (inState s C) commit (toAll s)) (taken (inState s A) abort (toAll s)))
     (refused s 5)

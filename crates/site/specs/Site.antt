@@ -3,13 +3,12 @@
 use Prim.Native.Nat.{ℕ}
 use mathlib.Core.Bool.{Bool, true, false, cond, not, _&&_, _||_}
 use lib.Dec.{eqb, ltb, leb}
-use Rattle.sets.specs.Sets.{has, union, minus, subset, othersOf, weightOf}
+use Rattle.sets.specs.Sets.{union, minus, subset, othersOf}
 use Rattle.site.specs.declared.State.{State}
 use Rattle.site.specs.declared.State.the-variants.{Q, W, P, A, C}
 use Rattle.site.specs.declared.Site.{Site}
 use Rattle.site.specs.declared.Step.{Step}
 use Rattle.site.specs.declared.Step.the-variants.{Begin, Start, Deliver, Notice, TakeOver, Conclude}
-use Rattle.site.specs.declared.Outcome.{Outcome}
 use Rattle.site.specs.declared.Outcome.the-variants.{Taken, Passed, Refused}
 use Rattle.site.specs.declared.Done.{Done}
 
@@ -129,23 +128,46 @@ soundOf s =
     && subset (named s) (othersOf (s .n) (s .number))
 
 -- "A site leads when it follows itself"
-abbrev pub follows : Site → Bool
-follows s = eqb (s .leader) (s .number)
+abbrev pub leads : Site → Bool
+leads s = eqb (s .leader) (s .number)
 
 -- ---- "Messages"
 
--- the kinds are 1 Start, 2 Yes, 3 No, 4 Move-p, 5 Move-w, 6 Ack, 7 Commit, 8 Abort
+-- the kinds by their numbers: "1 Start", "2 Yes, 3 No", "4 Move-p, 5 Move-w, 7 Commit, 8 Abort", "6 Ack"
+abbrev pub start : ℕ
+start = 1
+
+abbrev pub yes : ℕ
+yes = 2
+
+abbrev pub no : ℕ
+no = 3
+
+abbrev pub move-p : ℕ
+move-p = 4
+
+abbrev pub move-w : ℕ
+move-w = 5
+
+abbrev pub ack : ℕ
+ack = 6
+
+abbrev pub commit : ℕ
+commit = 7
+
+abbrev pub abort : ℕ
+abort = 8
 
 -- the orders of a leader, which go from a lower site to a higher: Move-p, Move-w, Commit, Abort
 abbrev pub isOrder : ℕ → Bool
-isOrder k = eqb k 4 || eqb k 5 || eqb k 7 || eqb k 8
+isOrder k = eqb k move-p || eqb k move-w || eqb k commit || eqb k abort
 
 -- the right ends of a message of kind k, by its sender and its receiver; an unknown kind has none
 unfoldable pub endsOf : ℕ → ℕ → ℕ → Bool
 endsOf k from to =
-    cond (eqb k 1) (eqb from 1 && ltb 1 to)
-    (cond (eqb k 2 || eqb k 3) (ltb 1 from && eqb to 1)
-    (cond (eqb k 6) (ltb to from)
+    cond (eqb k start) (eqb from 1 && ltb 1 to)
+    (cond (eqb k yes || eqb k no) (ltb 1 from && eqb to 1)
+    (cond (eqb k ack) (ltb to from)
     (cond (isOrder k) (ltb from to) false)))
 
 -- "All" means every other site not known stopped
@@ -159,8 +181,8 @@ inRun s j = leb 1 j && leb j (s .n)
 
 abbrev pub namesOf : Site → Step → Bool
 namesOf s (Begin v) = true
-namesOf s (Start from v) = inRun s from && endsOf 1 from (s .number)
-namesOf s (Deliver k from) = inRun s from && not (eqb k 1) && endsOf k from (s .number)
+namesOf s (Start from v) = inRun s from && endsOf start from (s .number)
+namesOf s (Deliver k from) = inRun s from && not (eqb k start) && endsOf k from (s .number)
 namesOf s (Notice o) = inRun s o && not (eqb o (s .number))
 namesOf s TakeOver = true
 namesOf s Conclude = true
@@ -173,7 +195,7 @@ polls s = isW (s .state) && eqb (s .number) 1
 
 -- a leader in p, or in w other than site 1, gathers acknowledgements
 unfoldable pub collects : Site → Bool
-collects s = follows s && (isP (s .state) || isW (s .state) && not (eqb (s .number) 1))
+collects s = leads s && (isP (s .state) || isW (s .state) && not (eqb (s .number) 1))
 
 -- the sites still awaited: who has not voted, or not acknowledged, and is not known stopped
 unfoldable pub awaitedOf : Site → ℕ

@@ -11,10 +11,10 @@ use Rattle.site.specs.declared.State.{State}
 use Rattle.site.specs.declared.State.the-variants.{Q, W, P, A, C}
 use Rattle.site.specs.declared.Site.{Site}
 use Rattle.site.specs.declared.Step.{Step}
-use Rattle.site.specs.declared.Step.the-variants.{Start, Deliver, Notice, Conclude}
+use Rattle.site.specs.declared.Step.the-variants.{Begin, Start, Deliver, Notice, TakeOver, Conclude}
 use Rattle.site.specs.declared.Vote.{Vote}
 use Rattle.site.specs.declared.Done.{Done}
-use Rattle.site.specs.Site.{soundOf, namesOf, toAll, following, refused, passed, taken}
+use Rattle.site.specs.Site.{soundOf, isOrder, namesOf, toAll, following, refused, passed, taken}
 
 -- ---- records and messages
 
@@ -66,7 +66,7 @@ pub data Moves : State → State → Type 0 where
 pub data Follows (s : Site) : ℕ → Type 0 where
   same : Follows s (s .leader)
   obeys : {from : ℕ} → s .leader ≤ from → from < s .number → Follows s from
-  leads : s .leader < s .number → lowerKnown s ≡ true → Follows s (s .number)
+  itself : s .leader < s .number → lowerKnown s ≡ true → Follows s (s .number)
 
 -- a set of other sites stays, or gains the site that the step brings
 pub data Grows (s : Site) (t : Step) (bring : ℕ → Step) (m : ℕ) : ℕ → Type 0 where
@@ -123,12 +123,22 @@ pub record Fit (s : Site) (t : Step) : Type 0 where
   pub sound : SoundSite s
   pub names : namesOf s t ≡ true
 
+-- 5 is the ground of "begin, take over or conclude when its rule doesn't allow it"
+pub data Ruled : Step → Type 0 where
+  begin : {v : Vote} → Ruled (Begin v)
+  take-over : Ruled TakeOver
+  conclude : Ruled Conclude
+
+-- 6 is the ground of a delivered order
+pub data Orders : Step → Type 0 where
+  order : {k from : ℕ} → isOrder k ≡ true → Orders (Deliver k from)
+
 -- the grounds of a single step, each where its turn in their order comes
 pub data Ground (s : Site) (t : Step) : ℕ → Type 0 where
   not-sound : soundOf s ≡ false → Ground s t 1
   wrong-names : SoundSite s → namesOf s t ≡ false → Ground s t 2
-  not-allowed : Fit s t → Ground s t 5
-  in-conflict : Fit s t → Ground s t 6
+  not-allowed : Fit s t → Ruled t → Ground s t 5
+  in-conflict : Fit s t → Orders t → Ground s t 6
 
 -- a step is refused with its ground, passed over, or taken
 pub data Did (s : Site) (t : Step) : Done → Type 0 where

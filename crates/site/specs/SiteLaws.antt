@@ -3,13 +3,13 @@
 use Prim.Native.Nat.{ℕ, _^_, _≤_, _<_}
 use mathlib.Core.Bool.{Bool, true, false, cond, _&&_, false≢true}
 use mathlib.Core.Path.{_≡_, refl, sym, ap, subst, _∙_}
-use mathlib.Core.Logic.{inl, ⊎-elim, _↔_}
+use mathlib.Core.Logic.{_⊎_, inl, inr, ⊎-elim, _↔_}
 use native.Mathlib.Omega.{arith}
 use lib.Dec.{eqb, ltb, lit<, lit≤}
 use borrow.Author.Tests.{ltb-true}
 use Rattle.sets.specs.Sets.{isSite, has, subset, countOf}
 use Rattle.sets.specs.SetLaws.{has-minus, has-with, members, count-is}
-use Rattle.sets.specs.Truths.{and-r, or-l, fails, Either, holds, failed, either}
+use Rattle.sets.specs.Truths.{and-r, or-l, fails, either}
 use Rattle.sets.specs.SubsetLaws.{others-lt, minus-lt, weight-lt, with-within, subset-none, nobody, count-none}
 use Rattle.site.specs.declared.State.{State}
 use Rattle.site.specs.declared.State.the-variants.{Q, W, P, A, C}
@@ -20,10 +20,10 @@ use Rattle.site.specs.declared.Outcome.the-variants.{Taken, Passed, Refu
 use Rattle.site.specs.declared.Done.{Done}
 use Rattle.site.specs.declared.Answer.{Answer}
 use Rattle.site.specs.Site.{soundOf, endsOf, toAll, namesOf, following}
-use Rattle.site.specs.Step.{doneOf, countsOf, answered, stepOf}
+use Rattle.site.specs.Step.{doneOf, countsOf, answered, stepOf, refusal}
 use Rattle.site.specs.SiteFacts.{others, SoundSite, lowerKnown, Moves, Follows, Grows, Change, Outward, Concludes, Wrote, Ground, Did, Other, isAnswer, Sends}
 use Rattle.site.specs.SiteFacts.Moves.{stays, q-w, q-a, w-p, w-a, p-w, p-c}
-use Rattle.site.specs.SiteFacts.Follows.{same, obeys, leads}
+use Rattle.site.specs.SiteFacts.Follows.{same, obeys, itself}
 use Rattle.site.specs.SiteFacts.Grows.{kept, gained}
 use Rattle.site.specs.SiteFacts.Outward.{starts, moves-p, moves-w, commits, aborts}
 use Rattle.site.specs.SiteFacts.Wrote.{nothing, to-all, to-one}
@@ -92,7 +92,7 @@ grows-has {m = m} (gained j b h) i e = has-with m j i ∙ or-l (has m i) (isSite
 follows-led : {s : Site} {l : ℕ} → Follows s l → SoundSite s → (1 ≤ l) × (l ≤ s .number)
 follows-led same g = (g .led, g .leader)
 follows-led (obeys l h) g = (omega (arith, g .led), omega arith)
-follows-led (leads l k) g = (g .first, omega arith)
+follows-led (itself l k) g = (g .first, omega arith)
 
 -- a sound record that changes so is sound
 pub change-sound : {s x : Site} {t : Step} → Change s t x → SoundSite s → SoundSite x
@@ -117,9 +117,6 @@ sound-kept s t e = parts-sound (stepOf s t .site) (change-sound (step-changes s 
 -- ---- refused and passed over
 
 -- a refusal hands the record back, writes nothing and counts nothing
-abbrev pub refusal : Site → ℕ → Answer
-refusal s g = record { site = s; outcome = Refused g; kind = 0; to = 0; counts = record { written = 0; awaited = 0 } }
-
 pub refused-unchanged : (s : Site) (t : Step) (g : ℕ) → stepOf s t .outcome ≡ Refused g → stepOf s t ≡ refusal s g
 unfolding stepOf answered
 refused-unchanged s t g e = go (did s t) e
@@ -147,7 +144,8 @@ passed-over s t e = go (did s t) e
     go (passes f {l} h) e = record { leader = l; follows = h; site = refl; kind = refl; to = refl; written = count-none }
     go (takes f c w) e = let z : _≡_ {A = ℕ} 0 1 = cc in absurd (omega arith)
 
--- "A single site step can give 1, 2, 5, 6": and each where its place in the order is reached
+-- "A single site step can give 1, 2, 5, 6": each where its place in the order is reached, 5 to Begin, Take over and Conclude only,
+-- and 6 to a delivered order only
 pub grounds : (s : Site) (t : Step) (g : ℕ) → stepOf s t .outcome ≡ Refused g → Ground s t g
 unfolding stepOf answered
 grounds s t g e = go (did s t) e
@@ -165,8 +163,8 @@ ground-1 s t = (λ e. go (grounds s t 1 e) refl, λ e. rw e refl)
     go : {g : ℕ} → Ground s t g → g ≡ 1 → soundOf s ≡ false
     go (not-sound h) e = h
     go (wrong-names h k) e = absurd (omega arith)
-    go (not-allowed f) e = absurd (omega arith)
-    go (in-conflict f) e = absurd (omega arith)
+    go (not-allowed f o) e = absurd (omega arith)
+    go (in-conflict f o) e = absurd (omega arith)
 
 -- ground 2 exactly where it is, and the step names what it must not
 pub ground-2 : (s : Site) (t : Step) → stepOf s t .outcome ≡ Refused 2 ↔ (soundOf s ≡ true) × (namesOf s t ≡ false)
@@ -179,8 +177,8 @@ ground-2 s t = (λ e. go (grounds s t 2 e) refl, λ e. back (e .0) (e .1))
     go : {g : ℕ} → Ground s t g → g ≡ 2 → (soundOf s ≡ true) × (namesOf s t ≡ false)
     go (not-sound h) e = absurd (omega arith)
     go (wrong-names h k) e = (parts-sound s h, k)
-    go (not-allowed f) e = absurd (omega arith)
-    go (in-conflict f) e = absurd (omega arith)
+    go (not-allowed f o) e = absurd (omega arith)
+    go (in-conflict f o) e = absurd (omega arith)
 
 -- ---- what is written
 
@@ -260,9 +258,9 @@ ends-need s e f = known-lower s (λ j l h. go j l h (either (has (s .known) j)))
         has-minus (others s) (s .known) j
         ∙ simp (parts-other s j g (record { first = l; last = omega (arith, g .last); apart = omega arith }), n)
 
-    go : (j : ℕ) → 1 ≤ j → j < s .number → Either (has (s .known) j) → has (s .known) j ≡ true
-    go j l h (holds x) = x
-    go j l h (failed x) =
+    go : (j : ℕ) → 1 ≤ j → j < s .number → has (s .known) j ≡ true ⊎ has (s .known) j ≡ false → has (s .known) j ≡ true
+    go j l h (inl x) = x
+    go j l h (inr x) =
         let w : has (stepOf s Conclude .to) j ≡ true = rw (c .to) (written j l h x) in
         let u : s .number < j = up j (c .kind) (subst (λ (k : ℕ). endsOf k (s .number) j ≡ true) (kind-of s Conclude j w) (f j w)) in
         absurd (omega arith)

@@ -20,19 +20,21 @@ use Rattle.site.specs.declared.Order.the-variants.{To, Over, Conflict}
 use Rattle.site.specs.declared.Site.{Site}
 use Rattle.site.specs.declared.Step.{Step}
 use Rattle.site.specs.declared.Step.the-variants.{Begin, Start, Deliver, Notice, TakeOver, Conclude}
-use Rattle.site.specs.Site.{isQ, isW, isP, inState, following, knowing, withAcked, named, soundOf, isOrder, endsOf, toAll, inRun, namesOf, follows, polls, collects, awaitedOf, refused, passed, taken}
+use Rattle.site.specs.Site.{isQ, isW, isP, inState, following, knowing, withAcked, named, soundOf, isOrder, endsOf, toAll, inRun, namesOf, leads, polls, collects, awaitedOf, refused, passed, taken}
 use Rattle.site.specs.First.{begun, beginOf, voted, startOf, noted, voteOf, tallyOf}
 use Rattle.site.specs.Leader.{movePAt, moveWAt, commitAt, abortAt, orderAt, obeyed, obeyOf, ackOf, overIn, takeOverOf, settleOf}
 use Rattle.site.specs.Step.{noticeOf, concludeOf, deliverOf, ruleOf, doneOf}
-use Rattle.site.specs.SiteFacts.{others, SoundSite, lowerKnown, Ends, Moves, Follows, Change, Outward, Fit, Did, Sends}
+use Rattle.site.specs.SiteFacts.{others, SoundSite, lowerKnown, Ends, Moves, Follows, Change, Outward, Fit, Orders, Did, Sends}
 use Rattle.site.specs.SiteFacts.Ends.{start, yes as ends-yes, no as ends-no, move-p, move-w, ack, commit, abort}
 use Rattle.site.specs.SiteFacts.Moves.{stays, q-w, q-a, w-p, w-a, p-w, p-c}
-use Rattle.site.specs.SiteFacts.Follows.{same, obeys, leads}
+use Rattle.site.specs.SiteFacts.Follows.{same, obeys, itself}
 use Rattle.site.specs.SiteFacts.Grows.{kept, gained}
 use Rattle.site.specs.SiteFacts.Outward.{starts, moves-p, moves-w, commits, aborts}
 use Rattle.site.specs.SiteFacts.Sends.{a-start, another}
 use Rattle.site.specs.SiteFacts.Back.{says-yes, says-no, acks}
 use Rattle.site.specs.SiteFacts.Wrote.{nothing, to-all, to-one}
+use Rattle.site.specs.SiteFacts.Ruled.{begin, take-over, conclude}
+use Rattle.site.specs.SiteFacts.Orders.{order}
 use Rattle.site.specs.SiteFacts.Ground.{not-sound, wrong-names, not-allowed, in-conflict}
 use Rattle.site.specs.SiteFacts.Did.{refuses, passes, takes}
 
@@ -222,7 +224,7 @@ did-begin s v f = go (eqb (s .number) 1 && isQ (s .state)) refl
 
     go : (b : Bool) → (eqb (s .number) 1 && isQ (s .state)) ≡ b → Did s (Begin v) (cond b (begun v s) (refused s 5))
     go true e = begins v (eqb-true (s .number) 1 (and-l (eqb (s .number) 1) (isQ (s .state)) e)) (is-q (s .state) (and-r (eqb (s .number) 1) (isQ (s .state)) e))
-    go false e = refuses (not-allowed f)
+    go false e = refuses (not-allowed f begin)
 
 did-start : (s : Site) (from : ℕ) (v : Vote) → Fit s (Start from v) → Did s (Start from v) (startOf s from v)
 unfolding startOf endsOf
@@ -273,9 +275,9 @@ did-ack s t from f d o = go (collects s)
         takes f (record { n = refl; number = refl; state = stays; leader = same; known = kept; yes = kept; no = kept; acked = inl (gained from d o) }) nothing
     go false = passes f same
 
-did-obey : (s : Site) (t : Step) (k from : ℕ) → Fit s t → Sends t from → 1 ≤ from → from < s .number → Lawful (s .state) (orderAt k (s .state)) → Did s t (obeyOf s k from)
+did-obey : (s : Site) (t : Step) (k from : ℕ) → Fit s t → Sends t from → Orders t → 1 ≤ from → from < s .number → Lawful (s .state) (orderAt k (s .state)) → Did s t (obeyOf s k from)
 unfolding obeyOf
-did-obey s t k from f d lo hi w = go (ltb from (s .leader)) refl
+did-obey s t k from f d u lo hi w = go (ltb from (s .leader)) refl
   where
     answer : (q : State) → Change s t (following (inState s q) from) → (b : Bool)
         → Did s t (cond b (taken (following (inState s q) from) 6 (weightOf from)) (taken (following (inState s q) from) 0 0))
@@ -285,7 +287,7 @@ did-obey s t k from f d lo hi w = go (ltb from (s .leader)) refl
     heeds : (o : Order) → Lawful (s .state) o → s .leader ≤ from → Did s t (obeyed o s k from)
     heeds (To q) (goes m) l = answer q (turns s t f q from m (obeys l hi)) (eqb k 4 || eqb k 5)
     heeds Over over l = passes f (obeys l hi)
-    heeds Conflict conflict l = refuses (in-conflict f)
+    heeds Conflict conflict l = refuses (in-conflict f u)
 
     go : (b : Bool) → ltb from (s .leader) ≡ b → Did s t (cond b (passed s) (obeyed (orderAt k (s .state)) s k from))
     go true e = passes f same
@@ -298,11 +300,11 @@ unfolding deliverOf
 did-deliver (start l) s e n r f = absurd (true≢false n)
 did-deliver (ends-yes {from} l) s e n r f = did-vote s (Deliver 2 from) from Yes f refl (other s (Deliver 2 from) f from r (omega arith))
 did-deliver (ends-no {from} l) s e n r f = did-vote s (Deliver 3 from) from No f refl (other s (Deliver 3 from) f from r (omega arith))
-did-deliver (move-p {from} l) s e n r f = did-obey s (Deliver 4 from) 4 from f another (in-least s from r) (rw e l) (lawful-p (s .state))
-did-deliver (move-w {from} l) s e n r f = did-obey s (Deliver 5 from) 5 from f another (in-least s from r) (rw e l) (lawful-w (s .state))
+did-deliver (move-p {from} l) s e n r f = did-obey s (Deliver 4 from) 4 from f another (order refl) (in-least s from r) (rw e l) (lawful-p (s .state))
+did-deliver (move-w {from} l) s e n r f = did-obey s (Deliver 5 from) 5 from f another (order refl) (in-least s from r) (rw e l) (lawful-w (s .state))
 did-deliver (ack {from} l) s e n r f = did-ack s (Deliver 6 from) from f refl (other s (Deliver 6 from) f from r (omega arith))
-did-deliver (commit {from} l) s e n r f = did-obey s (Deliver 7 from) 7 from f another (in-least s from r) (rw e l) (lawful-commit (s .state))
-did-deliver (abort {from} l) s e n r f = did-obey s (Deliver 8 from) 8 from f another (in-least s from r) (rw e l) (lawful-abort (s .state))
+did-deliver (commit {from} l) s e n r f = did-obey s (Deliver 7 from) 7 from f another (order refl) (in-least s from r) (rw e l) (lawful-commit (s .state))
+did-deliver (abort {from} l) s e n r f = did-obey s (Deliver 8 from) 8 from f another (order refl) (in-least s from r) (rw e l) (lawful-abort (s .state))
 
 did-notice : (s : Site) (o : ℕ) → Fit s (Notice o) → Did s (Notice o) (noticeOf s o)
 unfolding noticeOf
@@ -321,16 +323,16 @@ unfolding takeOverOf lowerKnown
 did-take-over s f = go (ltb (s .leader) (s .number) && subset (belowOf (s .number)) (s .known)) refl
   where
     at : (q : State) → s .state ≡ q → s .leader < s .number → lowerKnown s ≡ true → Did s TakeOver (overIn q s)
-    at Q e l k = takes f (heads s TakeOver f A (rw e q-a) (leads l k)) (to-all aborts (inl k))
-    at W e l k = takes f (heads s TakeOver f (s .state) stays (leads l k)) (to-all moves-w (inl k))
-    at P e l k = takes f (heads s TakeOver f (s .state) stays (leads l k)) (to-all moves-p (inl k))
-    at A e l k = takes f (heads s TakeOver f (s .state) stays (leads l k)) (to-all aborts (inl k))
-    at C e l k = takes f (heads s TakeOver f (s .state) stays (leads l k)) (to-all commits (inl k))
+    at Q e l k = takes f (heads s TakeOver f A (rw e q-a) (itself l k)) (to-all aborts (inl k))
+    at W e l k = takes f (heads s TakeOver f (s .state) stays (itself l k)) (to-all moves-w (inl k))
+    at P e l k = takes f (heads s TakeOver f (s .state) stays (itself l k)) (to-all moves-p (inl k))
+    at A e l k = takes f (heads s TakeOver f (s .state) stays (itself l k)) (to-all aborts (inl k))
+    at C e l k = takes f (heads s TakeOver f (s .state) stays (itself l k)) (to-all commits (inl k))
 
     go : (b : Bool) → (ltb (s .leader) (s .number) && subset (belowOf (s .number)) (s .known)) ≡ b → Did s TakeOver (cond b (overIn (s .state) s) (refused s 5))
     go true e =
         at (s .state) refl (ltb-true (s .leader) (s .number) (and-l (ltb (s .leader) (s .number)) (subset (belowOf (s .number)) (s .known)) e)) (and-r (ltb (s .leader) (s .number)) (subset (belowOf (s .number)) (s .known)) e)
-    go false e = refuses (not-allowed f)
+    go false e = refuses (not-allowed f take-over)
 
 did-conclude : (s : Site) → Fit s Conclude → Did s Conclude (concludeOf s)
 unfolding concludeOf tallyOf settleOf polls collects
@@ -342,7 +344,7 @@ did-conclude s f = go (polls s) refl
     tally : s .leader ≡ s .number → s .state ≡ W → (x y : Bool) → Did s Conclude (cond x (taken (inState s A) 8 (toAll s)) (cond y (taken (inState s P) 4 (toAll s)) (refused s 5)))
     tally l e true y = concludes A 8 l (rw e w-a) aborts
     tally l e false true = concludes P 4 l (rw e w-p) moves-p
-    tally l e false false = refuses (not-allowed f)
+    tally l e false false = refuses (not-allowed f conclude)
 
     -- a leader that gathers acknowledgements stands in p or w
     stands : s .leader ≡ s .number → (x w : Bool) → isP (s .state) ≡ x → isW (s .state) ≡ w → (x || w && not (eqb (s .number) 1)) ≡ true → Did s Conclude (cond x (taken (inState s C) 7 (toAll s)) (taken (inState s A) 8 (toAll s)))
@@ -353,10 +355,10 @@ did-conclude s f = go (polls s) refl
     settle : (b : Bool) → (collects s && eqb (awaitedOf s) 0) ≡ b
         → Did s Conclude (cond b (cond (isP (s .state)) (taken (inState s C) 7 (toAll s)) (taken (inState s A) 8 (toAll s))) (refused s 5))
     settle true e =
-        let c : (follows s && (isP (s .state) || isW (s .state) && not (eqb (s .number) 1))) ≡ true = and-l (collects s) (eqb (awaitedOf s) 0) e in
-        stands (eqb-true (s .leader) (s .number) (and-l (follows s) (isP (s .state) || isW (s .state) && not (eqb (s .number) 1)) c)) (isP (s .state)) (isW (s .state)) refl refl
-        (and-r (follows s) (isP (s .state) || isW (s .state) && not (eqb (s .number) 1)) c)
-    settle false e = refuses (not-allowed f)
+        let c : (leads s && (isP (s .state) || isW (s .state) && not (eqb (s .number) 1))) ≡ true = and-l (collects s) (eqb (awaitedOf s) 0) e in
+        stands (eqb-true (s .leader) (s .number) (and-l (leads s) (isP (s .state) || isW (s .state) && not (eqb (s .number) 1)) c)) (isP (s .state)) (isW (s .state)) refl refl
+        (and-r (leads s) (isP (s .state) || isW (s .state) && not (eqb (s .number) 1)) c)
+    settle false e = refuses (not-allowed f conclude)
 
     go : (b : Bool) → polls s ≡ b → Did s Conclude (cond b (tallyOf s) (settleOf s))
     go true e =

@@ -1,10 +1,9 @@
 -- The site step (01, "Site and messages"): every step's rule, the grounds 1, 2, 5 and 6 in their order, and what is reported.
 -- Assumes nothing.
 use Prim.Native.Nat.{ℕ}
-use mathlib.Core.Bool.{Bool, true, false, cond, not, _&&_, _||_}
+use mathlib.Core.Bool.{cond}
 use lib.Dec.{eqb}
 use Rattle.sets.specs.Sets.{has, withSite, countOf, lowestOf}
-use Rattle.site.specs.declared.Vote.{Vote}
 use Rattle.site.specs.declared.Vote.the-variants.{Yes, No}
 use Rattle.site.specs.declared.Site.{Site}
 use Rattle.site.specs.declared.Step.{Step}
@@ -14,7 +13,7 @@ use Rattle.site.specs.declared.Outcome.the-variants.{Taken, Passed, Refu
 use Rattle.site.specs.declared.Done.{Done}
 use Rattle.site.specs.declared.Counts.{Counts}
 use Rattle.site.specs.declared.Answer.{Answer}
-use Rattle.site.specs.Site.{knowing, soundOf, namesOf, polls, awaitedOf, refused, passed, taken}
+use Rattle.site.specs.Site.{knowing, soundOf, yes, no, ack, namesOf, polls, awaitedOf, refused, passed, taken}
 use Rattle.site.specs.First.{beginOf, startOf, voteOf, tallyOf}
 use Rattle.site.specs.Leader.{obeyOf, ackOf, takeOverOf, settleOf}
 
@@ -30,9 +29,9 @@ concludeOf s = cond (polls s) (tallyOf s) (settleOf s)
 -- a delivered message of kind k that is no Start
 unfoldable pub deliverOf : Site → ℕ → ℕ → Done
 deliverOf s k from =
-    cond (eqb k 2) (voteOf s from Yes)
-    (cond (eqb k 3) (voteOf s from No)
-    (cond (eqb k 6) (ackOf s from) (obeyOf s k from)))
+    cond (eqb k yes) (voteOf s from Yes)
+    (cond (eqb k no) (voteOf s from No)
+    (cond (eqb k ack) (ackOf s from) (obeyOf s k from)))
 
 -- each step's own rule
 abbrev pub ruleOf : Site → Step → Done
@@ -48,14 +47,18 @@ unfoldable pub doneOf : Site → Step → Done
 doneOf s t = cond (soundOf s) (cond (namesOf s t) (ruleOf s t) (refused s 2)) (refused s 1)
 
 -- "A step reports the number of messages written, counted in the set of receivers, and the number of sites still awaited",
--- of the record as it then is; a refusal reports zeros
+-- of the record as it then is
 abbrev pub counted : Site → ℕ → Counts
 counted s to = record { written = countOf to; awaited = countOf (awaitedOf s) }
+
+-- "zero counts": no message written, nobody awaited
+abbrev pub none : Counts
+none = record { written = 0; awaited = 0 }
 
 abbrev pub countsOf : Outcome → Site → ℕ → Counts
 countsOf Taken s to = counted s to
 countsOf Passed s to = counted s to
-countsOf (Refused g) s to = record { written = 0; awaited = 0 }
+countsOf (Refused g) s to = none
 
 -- the kind is 0 where nobody is written to
 abbrev pub kindOf : ℕ → ℕ → ℕ
@@ -75,6 +78,16 @@ answered d =
 -- the answer to every step of every record: "A single site step can give 1, 2, 5, 6"
 unfoldable pub stepOf : Site → Step → Answer
 stepOf s t = answered (doneOf s t)
+
+-- "Refused: run and site come back unchanged, no message, zero counts"
+abbrev pub refusal : Site → ℕ → Answer
+refusal s g = record { site = s; outcome = Refused g; kind = 0; to = 0; counts = none }
+
+-- "When an answer is an enum, a definition gives this paper's number and values for each of its cases": an outcome's ground, 0 where there is none
+abbrev pub groundOf : Outcome → ℕ
+groundOf Taken = 0
+groundOf Passed = 0
+groundOf (Refused g) = g
 
 -- the lowest site awaited, 0 for none
 unfoldable pub awaitedFirst : Site → ℕ

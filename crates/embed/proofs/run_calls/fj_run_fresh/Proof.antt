@@ -4,7 +4,8 @@ use mathlib.Core.Path.{sym, ap}
 use borrow.Author.Tests.{eq-eqb, ne-eqb}
 use Prim.Native.Nat.{ℕ}
 use Rattle.site.specs.declared.Outcome.{Outcome}
-use Rattle.embed.specs.Bytes.{refusalOf, leaves}
+use Rattle.site.specs.Step.{groundOf}
+use Rattle.embed.specs.Bytes.{leaves}
 use Rattle.embed.specs.RunCalls.{runBytes, freshCall}
 use Rattle.embed.proofs.Calls.{accepted-zero}
 use borrow.Author.Needs.{needs}
@@ -29,7 +30,7 @@ same-length c = search needs
 
 returns-2 : tie.Need-returns-2
 unfolding freshCall
-returns-2 c = simp (eq-eqb _ _ (c .before .before .before .before .before .before .before .before .if1 .left), ← c .before .before .before .before .before .before .before .fresh .ensures, c .before .before .before .before .before .put-run .ensures) (ap (λ (o : Outcome). leaves (refusalOf o) (runBytes (c .before .before .before .before .before .before .before .fresh .result .run))) (sym (c .before .outcome .given .1)))
+returns-2 c = simp (eq-eqb _ _ (c .before .before .before .before .before .before .before .before .if1 .left), ← c .before .before .before .before .before .before .before .fresh .ensures, c .before .before .before .before .before .put-run .ensures) (ap (λ (o : Outcome). leaves (groundOf o) (runBytes (c .before .before .before .before .before .before .before .fresh .result .run))) (sym (c .before .outcome .given .1)))
 
 same-length-2 : tie.Need-same-length-2
 same-length-2 c = search needs

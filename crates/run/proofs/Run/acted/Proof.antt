@@ -4,8 +4,8 @@ use mathlib.Core.Path.{_≡_, sym, ap, _∙_}
 use mathlib.Core.List.{List}
 use Prim.Native.Nat.{ℕ}
 use lib.ListN.{length}
-use Rattle.run.specs.Run.{withNet, withRecord}
-use Rattle.run.specs.Reply.{deliveredIn, delivered-length, sentIn, acted-in}
+use Rattle.run.specs.Run.{sentIn, withNet, withRecord}
+use Rattle.run.specs.Reply.{deliveredIn, delivered-length, acted-in}
 use borrow.Author.Needs.{needs}
 use Rattle.run.proofs.Run.acted.Statement.{statement}
 use Rattle.run.proofs.Run.acted.Tie as tie

@@ -2,8 +2,7 @@
 -- Assumes nothing.
 use mathlib.Core.Path.{ap, _∙_}
 use Rattle.run.specs.declared.Run.{Run}
-use Rattle.run.specs.Run.{sentBy, withNet}
-use Rattle.run.specs.Reply.{sentIn}
+use Rattle.run.specs.Run.{sentIn, sentBy, withNet}
 use borrow.Author.Needs.{needs}
 use Rattle.run.proofs.Run.cut_short.Statement.{statement}
 use Rattle.run.proofs.Run.cut_short.Tie as tie
