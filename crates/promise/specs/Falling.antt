@@ -28,7 +28,8 @@ use Rattle.sets.specs.Truths.{and-l, and-r, same as alike}
 use Rattle.promise.specs.SetsMembers.{In, minus-in, both-l, in-with, with-in, in-with-new}
 use Rattle.promise.specs.RunViews.{recordOf, Runs}
 use Rattle.run.specs.SoundLaws.{sound-parts}
-use Rattle.promise.specs.RunEvents.{Allowed, Denied, Halted, Unhalted, decide, decide-stop}
+use Rattle.run.specs.Happens.{Able, Acting}
+use Rattle.promise.specs.RunEvents.{running, stop-is, Denied, Unhalted, decide, decide-stop}
 use Rattle.promise.specs.Become.{by-site}
 use Rattle.promise.specs.Seen.{number, viewOf}
 use Rattle.promise.specs.Brings.{Notices, weigh, netWorth, newsWorth}
@@ -87,7 +88,7 @@ module _ (r : Run) (s : ℕ) (x : Runs r s) (n8 : r .n ≤ 8) (net : List ℕ) w
   pairs-gone = pairs-le r gone refl (in-with (r .stopped) s) (λ i j y. y)
 
 -- Site s takes a step.
-module _ (w : ℕ → Type 0) (r : Run) (h : Held w r) (s : ℕ) (t : Step) (al : Allowed r s t) where
+module _ (w : ℕ → Type 0) (r : Run) (h : Held w r) (s : ℕ) (t : Step) (al : Acting r s t) where
   open Known (known w r h s t al) using (good, seen as y, kinds, whole-run, part-run, place, new, still)
 
   abbrev z : Record
@@ -121,7 +122,7 @@ module _ (w : ℕ → Type 0) (r : Run) (h : Held w r) (s : ℕ) (t : Step) (al 
           arith,
           weight,
           y .spends .fee,
-          falls (viewOf w r) s (λ i. In (d .to) i) (h .inv) (al .runs .least) (r .n) (members m 8)
+          falls (viewOf w r) s (λ i. In (d .to) i) (h .inv) (running (al .able) .least) (r .n) (members m 8)
               (λ f. members-above m s (r .n) 8 (λ i x. (f i (sub i x), y .within i (sub i x)))) (λ k f. members-only m k 8 (λ i x. f i (sub i x))) (λ f. members-none m 8 (λ i x. f i (sub i x))) (y .act),
         )
 
@@ -131,10 +132,10 @@ module _ (w : ℕ → Type 0) (r : Run) (h : Held w r) (s : ℕ) (t : Step) (al 
   parts-whole =
       omega (
         arith,
-        parts-at r q s refl (al .runs .least) (al .runs .most) (λ i ne. (refl, still i ne)),
-        part-runs (r .stopped) (r .n) (recordOf (r .sites) s) s (al .runs .up),
+        parts-at r q s refl (running (al .able) .least) (running (al .able) .most) (λ i ne. (refl, still i ne)),
+        part-runs (r .stopped) (r .n) (recordOf (r .sites) s) s (running (al .able) .up),
         ap (λ (a : Record). partOf (r .stopped) (r .n) a s) new,
-        part-runs (r .stopped) (r .n) (d .site) s (al .runs .up),
+        part-runs (r .stopped) (r .n) (d .site) s (running (al .able) .up),
       )
 
   more : (i k : ℕ) → In (recordOf (r .sites) i .known) k → In (recordOf (q .sites) i .known) k
@@ -154,7 +155,7 @@ module _ (w : ℕ → Type 0) (r : Run) (h : Held w r) (s : ℕ) (t : Step) (al 
   news step.TakeOver e = omega (arith, none-rises)
   news step.Conclude e = omega (arith, none-rises)
   news (step.Notice o) e =
-      pairs-learn r q refl (λ i x. x) more s o (al .runs .least) (al .runs .most) (noticed .0) (noticed .1) other (al .runs .up) (and-l (has (r .stopped) o) (not (has (z .known) o)) there)
+      pairs-learn r q refl (λ i x. x) more s o (running (al .able) .least) (running (al .able) .most) (noticed .0) (noticed .1) other (running (al .able) .up) (and-l (has (r .stopped) o) (not (has (z .known) o)) there)
       (ap (λ (a : Record). has (a .known) o) (place .here) ∙ not-true (has (z .known) o) (and-r (has (r .stopped) o) (not (has (z .known) o)) there))
       (ap (λ (a : Record). has (a .known) o) new ∙ y .spends .learns o (subst (λ (u : Step). Notices u o) e refl))
     where
@@ -197,8 +198,8 @@ module _ (w : ℕ → Type 0) (r : Run) (h : Held w r) (s : ℕ) (t : Step) (al 
         potential-is r,
         messages-sent (stoppedIn (r .net) s) (length-map (r .net) _ ∙ h .shape .net) (kindAt r s t) s (leaving r s t x),
         net-halted r (h .shape .net) s t (al .there),
-        parts-gone r s (al .runs) (good .most) (partAt r s t x .net),
-        pairs-gone r s (al .runs) (good .most) (partAt r s t x .net),
+        parts-gone r s (running (al .able)) (good .most) (partAt r s t x .net),
+        pairs-gone r s (running (al .able)) (good .most) (partAt r s t x .net),
         news-one t,
         lowers (leaving r s t x) (λ i y. both-l (d .to) x i (minus-in (both (d .to) x) (withSite (r .stopped) s) i y)),
       ))
@@ -219,21 +220,21 @@ module _ (w : ℕ → Type 0) (r : Run) (h : Held w r) where
       ⊎-elim (λ al. omega (arith, accepted-one (eventOf r (Cut s t x) .outcome), part-falls w r h s t al x)) (λ (n : Denied r s t). rw (n .part x) (omega arith)) (decide r s t)
   event-falls (Stop s) = ⊎-elim halted (λ (n : Unhalted r s). rw (n .done) (omega arith)) (decide-stop r s)
     where
-      halted : Halted r s → acceptedBy (eventOf r (Stop s) .outcome) + potential (eventOf r (Stop s) .run) ≤ potential r
-      halted n = rw (n .done) (unfold stoppedAt in lower)
+      halted : Able r s → acceptedBy (eventOf r (Stop s) .outcome) + potential (eventOf r (Stop s) .run) ≤ potential r
+      halted n = rw (stop-is n) (unfold stoppedAt in lower)
         where
           most : r .n ≤ 8
           most = sound-parts r (h .shape) (n .sound) .most
 
-          lower : 1 + potential (gone r s (n .runs) most (stoppedIn (r .net) s)) ≤ potential r
+          lower : 1 + potential (gone r s (running n) most (stoppedIn (r .net) s)) ≤ potential r
           lower =
               omega (
                 arith,
-                potential-is (gone r s (n .runs) most (stoppedIn (r .net) s)),
+                potential-is (gone r s (running n) most (stoppedIn (r .net) s)),
                 potential-is r,
                 messages-stopped (r .net) s,
-                parts-gone r s (n .runs) most (stoppedIn (r .net) s),
-                pairs-gone r s (n .runs) most (stoppedIn (r .net) s),
+                parts-gone r s (running n) most (stoppedIn (r .net) s),
+                pairs-gone r s (running n) most (stoppedIn (r .net) s),
               )
 
 pub told-falls : (w : ℕ → Type 0) (t : Tale) (es : List Event) → Held w (t .run) → told t es .accepted + potential (told t es .run) ≤ t .accepted + potential (t .run)

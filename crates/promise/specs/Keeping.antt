@@ -23,13 +23,14 @@ use Rattle.run.specs.declared.Event.{Event}
 use Rattle.run.specs.declared.Event.the-variants.{Act, Stop, Cut}
 use Rattle.run.specs.declared.Ran.{Ran}
 use Rattle.run.specs.Run.{siteAt, withRecord, takenOut, sentBy, stoppedAt, takenIn}
-use Rattle.run.specs.Sound.{Sound, soundRun}
+use Rattle.run.specs.Sound.{Sound}
 use Rattle.run.specs.Event.{refusedRun, isThere, delivered, acted, cutShort, eventOf}
 use Rattle.promise.specs.SetsMembers.{In, in-none, minus-in, both-l, both-r}
 use Rattle.run.specs.Views.{Shape, delivered-net}
 use Rattle.promise.specs.RunViews.{recordOf, Placed, placed, replaced, others, Runs, Out, taken-less}
 use Rattle.run.specs.SoundLaws.{sound-parts}
-use Rattle.promise.specs.RunEvents.{Accepted, Allowed, Denied, Halted, decide, decide-stop}
+use Rattle.run.specs.Happens.{Able, Acting}
+use Rattle.promise.specs.RunEvents.{Accepted, accepted-is, running, whole-is, part-is, stop-is, Denied, decide, decide-stop}
 use Rattle.promise.specs.Classes.{IsYes, Gives, IsQ, order-gives, yes-gives}
 use Rattle.promise.specs.View.{Inv}
 use Rattle.promise.specs.Less.{Less, less, stop, Votes, stop-inv}
@@ -141,10 +142,10 @@ abbrev pub partAt : Run → ℕ → Step → ℕ → Run
 partAt r s t x = partRun r s (kindAt r s t) (leaving r s t x)
 
 -- What is known of an accepted step.
-pub record Known (w : ℕ → Type 0) (r : Run) (h : Held w r) (s : ℕ) (t : Step) (al : Allowed r s t) : Type 0 where
+pub record Known (w : ℕ → Type 0) (r : Run) (h : Held w r) (s : ℕ) (t : Step) (al : Acting r s t) : Type 0 where
   pub good : Sound r
   pub most : s ≤ 8
-  pub seen : Stepped w r good (h .inv) s (al .runs) t (doneAt r s t)
+  pub seen : Stepped w r good (h .inv) s (running (al .able)) t (doneAt r s t)
   pub kinds : (i : ℕ) → In (doneAt r s t .to) i → kindAt r s t ≡ number (seen .κ)
   pub outcome : eventOf r (Act s t) .outcome ≡ doneAt r s t .outcome
   pub whole-run : eventOf r (Act s t) .run ≡ wholeAt r s t
@@ -154,7 +155,7 @@ pub record Known (w : ℕ → Type 0) (r : Run) (h : Held w r) (s : ℕ) (t : St
   pub new : recordOf (wholeAt r s t .sites) s ≡ doneAt r s t .site
   pub still : (i : ℕ) → i ≢ s → recordOf (wholeAt r s t .sites) i ≡ recordOf (r .sites) i
 
-module _ (w : ℕ → Type 0) (r : Run) (h : Held w r) (s : ℕ) (t : Step) (al : Allowed r s t) where
+module _ (w : ℕ → Type 0) (r : Run) (h : Held w r) (s : ℕ) (t : Step) (al : Acting r s t) where
   abbrev d : Done
   d = doneAt r s t
 
@@ -166,37 +167,37 @@ module _ (w : ℕ → Type 0) (r : Run) (h : Held w r) (s : ℕ) (t : Step) (al 
         most = most;
         seen = seen;
         kinds = λ i y. ap (λ (b : Bool). cond b 0 (d .kind)) (ne-eqb (d .to) 0 (λ e. in-none i (rw e at y))) ∙ seen .kind i y;
-        outcome = ap (λ (a : Ran). a .outcome) (al .whole) ∙ ap (λ a. a .outcome) step-is;
-        whole-run = ap (λ (a : Ran). a .run) (al .whole) ∙ ap (λ a. acted r s t a) step-is ∙ ap (λ (y : Run). sentBy (withRecord y s (d .site)) (kindAt r s t) s (d .to)) (delivered-net r s t);
-        part-run = λ x. ap (λ (a : Ran). a .run) (al .part x) ∙ ap (λ a. cutShort r s a x) step-is;
-        place = placed good (al .runs);
-        new = replaced (r .sites) s (d .site) (al .runs .least) (omega (arith, h .shape .sites, most));
-        still = others (r .sites) s (d .site) (al .runs .least);
+        outcome = ap (λ (a : Ran). a .outcome) (whole-is al) ∙ ap (λ a. a .outcome) step-is;
+        whole-run = ap (λ (a : Ran). a .run) (whole-is al) ∙ ap (λ a. acted r s t a) step-is ∙ ap (λ (y : Run). sentBy (withRecord y s (d .site)) (kindAt r s t) s (d .to)) (delivered-net r s t);
+        part-run = λ x. ap (λ (a : Ran). a .run) (part-is al x) ∙ ap (λ a. cutShort r s a x) step-is;
+        place = placed good (running (al .able));
+        new = replaced (r .sites) s (d .site) (running (al .able) .least) (omega (arith, h .shape .sites, most));
+        still = others (r .sites) s (d .site) (running (al .able) .least);
       }
     where
       good : Sound r
-      good = sound-parts r (h .shape) (al .sound)
+      good = sound-parts r (h .shape) (al .able .sound)
 
       most : s ≤ 8
-      most = omega (arith, al .runs .most, good .most)
+      most = omega (arith, running (al .able) .most, good .most)
 
       step-is : stepOf (siteAt r s) t ≡ answered d
-      step-is = by-rule r good s t (al .runs) (al .names)
+      step-is = by-rule r good s t (running (al .able)) (al .names)
 
-      seen : Stepped w r good (h .inv) s (al .runs) t d
-      seen = sure (d .outcome) (subst (λ a. Accepted (a .outcome)) step-is (al .accepted)) (steps w r good (h .inv) s (al .runs) t (al .names) (al .there))
+      seen : Stepped w r good (h .inv) s (running (al .able)) t d
+      seen = sure (d .outcome) (subst (λ a. Accepted (a .outcome)) step-is (accepted-is (stepOf (siteAt r s) t .outcome) (al .accepted))) (steps w r good (h .inv) s (running (al .able)) t (al .names) (al .there))
 
   open Known known using (most, seen, kinds, outcome, whole-run, part-run)
 
   -- the run after the step is no more than the invariant allows for
   pub whole-less : (w′ : ℕ → Type 0) → Less (viewOf w′ (wholeAt r s t)) (send (become (viewOf w r) s (d .site .state) (d .site .leader) (viewOf w′ r .voted)) (seen .κ) s (λ i. In (d .to) i))
   whole-less w′ =
-      wholly-less w w′ r (h .shape) (delivered r s t .net) (delivered-len r s t (h .shape)) s (al .runs .least) most (d .site) (kindAt r s t) (minus (d .to) (r .stopped)) (seen .κ)
+      wholly-less w w′ r (h .shape) (delivered r s t .net) (delivered-len r s t (h .shape)) s (running (al .able) .least) most (d .site) (kindAt r s t) (minus (d .to) (r .stopped)) (seen .κ)
       (λ i. In (d .to) i) (delivered-less r s t (h .shape)) (λ i y. let z = minus-in (d .to) (r .stopped) i y in (kinds i z, z)) (seen .holds .heard)
 
   pub part-less : (w′ : ℕ → Type 0) (x : ℕ) → Less (viewOf w′ (partAt r s t x)) (send (stop (viewOf w r) s (viewOf w′ r .voted)) (seen .κ) s (λ i. In (both (d .to) x) i))
   part-less w′ x =
-      partly-less w w′ r (h .shape) s (al .runs .least) most (kindAt r s t) (leaving r s t x) (seen .κ) (λ i. In (both (d .to) x) i)
+      partly-less w w′ r (h .shape) s (running (al .able) .least) most (kindAt r s t) (leaving r s t x) (seen .κ) (λ i. In (both (d .to) x) i)
       (λ i y. let z = minus-in (both (d .to) x) (withSite (r .stopped) s) i y in (kinds i (both-l (d .to) x i z), z))
 
   -- the votes
@@ -208,7 +209,7 @@ module _ (w : ℕ → Type 0) (r : Run) (h : Held w r) (s : ℕ) (t : Step) (al 
     votes =
         record {
           old = λ i f p q. inl (f p q);
-          new = by-site (λ i. (1 ≤ i → i ≤ r .n → With w v i) → viewOf w r .voted i ⊎ ((i ≡ s) × IsQ (viewOf w r .st s))) s (λ f. at-s (f (al .runs .least) (al .runs .most)))
+          new = by-site (λ i. (1 ≤ i → i ≤ r .n → With w v i) → viewOf w r .voted i ⊎ ((i ≡ s) × IsQ (viewOf w r .st s))) s (λ f. at-s (f (running (al .able) .least) (running (al .able) .most)))
               (λ i ne f. inl (λ p q. ⊎-elim (λ y. y) (λ y. absurd (ne (who i y .0))) (f p q)));
         }
       where
@@ -225,7 +226,7 @@ module _ (w : ℕ → Type 0) (r : Run) (h : Held w r) (s : ℕ) (t : Step) (al 
       (record {
         shape = record { sites = length-set (r .sites) _ _ ∙ h .shape .sites; net = length-set (delivered r s t .net) _ _ ∙ delivered-len r s t (h .shape) };
         inv = less _ _ (whole-less (With w (Now r (Act s t))))
-            (whole (viewOf w r) s (h .inv) (al .runs) _ (votes (Now r (Act s t)) (λ i. spoken)) _ _ (seen .κ) (seen .uses) (λ i. In (d .to) i) (λ i. In (d .to) i) (seen .act) (λ i y. y)
+            (whole (viewOf w r) s (h .inv) (running (al .able)) _ (votes (Now r (Act s t)) (λ i. spoken)) _ _ (seen .κ) (seen .uses) (λ i. In (d .to) i) (λ i. In (d .to) i) (seen .act) (λ i y. y)
             (λ y p q. inr (speaks r s t (seen .votes .gives y .0) (outcome ∙ seen .votes .gives y .1))) (quiet (Now r (Act s t)) (λ i. spoken)));
       })
 
@@ -235,7 +236,7 @@ module _ (w : ℕ → Type 0) (r : Run) (h : Held w r) (s : ℕ) (t : Step) (al 
       (record {
         shape = record { sites = h .shape .sites; net = simp (length-set, length-map) (h .shape .net) };
         inv = less _ _ (part-less (With w (Now r (Cut s t x))) x)
-            (cut (viewOf w r) s (h .inv) (al .runs) _ (votes (Now r (Cut s t x)) (λ i. spoken-cut)) _ _ (seen .κ) (seen .uses) (λ i. In (d .to) i) (λ i. In (both (d .to) x) i) (seen .act)
+            (cut (viewOf w r) s (h .inv) (running (al .able)) _ (votes (Now r (Cut s t x)) (λ i. spoken-cut)) _ _ (seen .κ) (seen .uses) (λ i. In (d .to) i) (λ i. In (both (d .to) x) i) (seen .act)
             (λ i y. both-l (d .to) x i y) left (λ o. quiet (Now r (Cut s t x)) (λ i. spoken-cut) (order-gives (seen .κ) o)));
       })
     where
@@ -273,17 +274,17 @@ module _ (w : ℕ → Type 0) (r : Run) (h : Held w r) where
   keeps (Cut s t x) = ⊎-elim (λ al. part-held w r h s t al x) (λ n. denied (Cut s t x) (n .ground) (n .part x) (λ i y. not-taken s t n (spoken-cut y .2))) (decide r s t)
   keeps (Stop s) = ⊎-elim halted (λ n. denied (Stop s) (n .ground) (n .done) (stop-silent s)) (decide-stop r s)
     where
-      halted : Halted r s → Held (With w (Now r (Stop s))) (eventOf r (Stop s) .run)
+      halted : Able r s → Held (With w (Now r (Stop s))) (eventOf r (Stop s) .run)
       halted n =
-          subst (Held (With w (Now r (Stop s)))) (sym (ap (λ (a : Ran). a .run) (n .done)))
+          subst (Held (With w (Now r (Stop s)))) (sym (ap (λ (a : Ran). a .run) (stop-is n)))
           (revote w (With w (Now r (Stop s))) (stoppedAt r s) (λ i y. inl y) (λ i. ⊎-elim (λ y. y) (λ y. absurd (stop-silent s i y))) stops)
         where
           stops : Held w (stoppedAt r s)
           stops =
               record {
                 shape = unfold stoppedAt in record { sites = h .shape .sites; net = length-map (r .net) _ ∙ h .shape .net };
-                inv = less _ _ (stopped-view r s (omega (arith, n .runs .most, sound-parts r (h .shape) (n .sound) .most)) w w)
-                    (stop-inv (viewOf w r) s _ (n .runs) (record { old = λ i y. y; new = λ i y. inl y }) (h .inv));
+                inv = less _ _ (stopped-view r s (omega (arith, running n .most, sound-parts r (h .shape) (n .sound) .most)) w w)
+                    (stop-inv (viewOf w r) s _ (running n) (record { old = λ i y. y; new = λ i y. inl y }) (h .inv));
               }
 
   -- no event conflicts
@@ -292,19 +293,19 @@ module _ (w : ℕ → Type 0) (r : Run) (h : Held w r) where
 
   peace : (s : ℕ) (t : Step) (n : Denied r s t) → Refused (n .ground) ≡ Refused 6 → ⊥
   unfolding answered
-  peace s t n q = ⊎-elim (λ l. let e : n .ground ≡ 6 = ap groundOf q in omega arith) (λ y. conflict (y .0) (y .1) (y .2) (y .3) (y .4)) (n .why)
+  peace s t n q = ⊎-elim (λ l. let e : n .ground ≡ 6 = ap groundOf q in omega arith) (λ y. conflict (y .0) (y .1) (y .2) (y .3)) (n .why)
     where
-      conflict : soundRun r ≡ true → Runs r s → namesOf (siteAt r s) t ≡ true → isThere r s t ≡ true → stepOf (siteAt r s) t .outcome ≡ Refused (n .ground) → ⊥
-      conflict g x m i o =
-          subst (λ (o : Outcome). Sure o (Stepped w r (sound-parts r (h .shape) g) (h .inv) s x t (ruleOf (siteAt r s) t)))
-          (sym (ap (λ a. a .outcome) (by-rule r (sound-parts r (h .shape) g) s t x m)) ∙ o ∙ q)
-          (steps w r (sound-parts r (h .shape) g) (h .inv) s x t m i) refl
+      conflict : Able r s → namesOf (siteAt r s) t ≡ true → isThere r s t ≡ true → stepOf (siteAt r s) t .outcome ≡ Refused (n .ground) → ⊥
+      conflict a m i o =
+          subst (λ (o : Outcome). Sure o (Stepped w r (sound-parts r (h .shape) (a .sound)) (h .inv) s (running a) t (ruleOf (siteAt r s) t)))
+          (sym (ap (λ b. b .outcome) (by-rule r (sound-parts r (h .shape) (a .sound)) s t (running a) m)) ∙ o ∙ q)
+          (steps w r (sound-parts r (h .shape) (a .sound)) (h .inv) s (running a) t m i) refl
 
   pub at-peace : (e : Event) → eventOf r e .outcome ≡ Refused 6 → ⊥
   at-peace (Act s t) q =
-      ⊎-elim (λ al. accepts _ (al .accepted) (sym (ap (λ (a : Ran). a .outcome) (al .whole)) ∙ q)) (λ n. peace s t n (sym (ap (λ (a : Ran). a .outcome) (n .whole)) ∙ q)) (decide r s t)
+      ⊎-elim (λ al. accepts _ (accepted-is (stepOf (siteAt r s) t .outcome) (al .accepted)) (sym (ap (λ (a : Ran). a .outcome) (whole-is al)) ∙ q)) (λ n. peace s t n (sym (ap (λ (a : Ran). a .outcome) (n .whole)) ∙ q)) (decide r s t)
   at-peace (Cut s t x) q =
-      ⊎-elim (λ al. accepts Taken tt (sym (ap (λ (a : Ran). a .outcome) (al .part x)) ∙ q)) (λ n. peace s t n (sym (ap (λ (a : Ran). a .outcome) (n .part x)) ∙ q)) (decide r s t)
+      ⊎-elim (λ al. accepts Taken tt (sym (ap (λ (a : Ran). a .outcome) (part-is al x)) ∙ q)) (λ n. peace s t n (sym (ap (λ (a : Ran). a .outcome) (n .part x)) ∙ q)) (decide r s t)
   at-peace (Stop s) q =
-      ⊎-elim (λ n. accepts Taken tt (sym (ap (λ (a : Ran). a .outcome) (n .done)) ∙ q))
+      ⊎-elim (λ n. accepts Taken tt (sym (ap (λ (a : Ran). a .outcome) (stop-is n)) ∙ q))
       (λ n. let e : n .ground ≡ 6 = ap groundOf (sym (ap (λ (a : Ran). a .outcome) (n .done)) ∙ q) in omega (arith, n .why)) (decide-stop r s)

@@ -22,7 +22,8 @@ use Rattle.promise.specs.SetsMembers.{In, in-minus}
 use Rattle.run.specs.Views.{Shape}
 use Rattle.promise.specs.RunViews.{recordOf, Runs, Out, sent-cases, sent-old, sent-new, taken-old, taken-gone, stopped-old}
 use Rattle.run.specs.SoundLaws.{sound-parts}
-use Rattle.promise.specs.RunEvents.{Allowed, Halted, decide, decide-stop}
+use Rattle.run.specs.Happens.{Able, Acting}
+use Rattle.promise.specs.RunEvents.{running, stop-is, decide, decide-stop}
 use Rattle.promise.specs.Classes.{Kind, Start, Yes, No, MoveP, MoveW, Ack, Commit, Abort}
 use Rattle.promise.specs.Does.{message}
 use Rattle.promise.specs.Owed.{Owed, After, owed-stopped, owed-step}
@@ -56,7 +57,7 @@ kind-in Abort = (omega arith, omega arith)
 
 -- ---- a step of site s
 
-module _ (w : ℕ → Type 0) (r : Run) (h : Held w r) (s : ℕ) (t : Step) (al : Allowed r s t) where
+module _ (w : ℕ → Type 0) (r : Run) (h : Held w r) (s : ℕ) (t : Step) (al : Acting r s t) where
   open Known (known w r h s t al) using (most, seen as y, kinds, whole-run, part-run, place, new, still)
 
   abbrev d : Done
@@ -90,7 +91,7 @@ module _ (w : ℕ → Type 0) (r : Run) (h : Held w r) (s : ℕ) (t : Step) (al 
       let n = kind-in (y .κ) in
       inl (subst (λ (C : ℕ). Out (q .net) C s i) e
       (sent-new net (kindAt r s t) s (minus (d .to) (r .stopped)) len
-      (record { least = rw e (n .0); most = rw e (n .1); first = al .runs .least; last = most }) i (in-minus (d .to) (r .stopped) i z (x .up))))
+      (record { least = rw e (n .0); most = rw e (n .1); first = running (al .able) .least; last = most }) i (in-minus (d .to) (r .stopped) i z (x .up))))
 
   gone : (k : ℕ) → k ≢ s → y .uses ≡ message Start k → viewOf w q .live Start k s → ⊥
   gone k ne u (inl x) =
@@ -114,7 +115,7 @@ module _ (w : ℕ → Type 0) (r : Run) (h : Held w r) (s : ℕ) (t : Step) (al 
   pub whole-owed : Owed (viewOf w r) → Owed (viewOf w (eventOf r (Act s t) .run))
   whole-owed o =
       subst (λ (a : Run). Owed (viewOf w a)) (sym whole-run)
-      (owed-step (viewOf w r) s (λ i. In (d .to) i) (h .inv) (al .runs) (viewOf w q) (d .site .state) (d .site .leader) (y .κ) (y .uses) after-whole (y .act) o)
+      (owed-step (viewOf w r) s (λ i. In (d .to) i) (h .inv) (running (al .able)) (viewOf w q) (d .site .state) (d .site .leader) (y .κ) (y .uses) after-whole (y .act) o)
 
   pub part-owed : (x : ℕ) → Owed (viewOf w r) → Owed (viewOf w (eventOf r (Cut s t x) .run))
   part-owed x o =
@@ -143,16 +144,16 @@ module _ (w : ℕ → Type 0) (r : Run) (h : Held w r) (o : Owed (viewOf w r)) w
   event-owed (Cut s t x) = ⊎-elim (λ al. part-owed w r h s t al x o) (λ n. same (Cut s t x) (n .ground) (n .part x)) (decide r s t)
   event-owed (Stop s) = ⊎-elim halted (λ n. same (Stop s) (n .ground) (n .done)) (decide-stop r s)
     where
-      halted : Halted r s → Owed (viewOf w (eventOf r (Stop s) .run))
+      halted : Able r s → Owed (viewOf w (eventOf r (Stop s) .run))
       halted n =
-          subst (λ (a : Ran). Owed (viewOf w (a .run))) (sym (n .done))
+          subst (λ (a : Ran). Owed (viewOf w (a .run))) (sym (stop-is n))
           (owed-stopped (viewOf w r) (viewOf w (stoppedAt r s)) s
           (record {
-            runs = stopped-view r s (omega (arith, n .runs .most, sound-parts r (h .shape) (n .sound) .most)) w w .runs;
+            runs = stopped-view r s (omega (arith, running n .most, sound-parts r (h .shape) (n .sound) .most)) w w .runs;
             st = λ i. unfold stoppedAt in refl;
             ld = λ i. unfold stoppedAt in refl;
             stay = λ c k i ne. unfold stoppedAt in ⊎-elim (λ z. inl (stopped-old (r .net) s (number c) k i z ne)) (λ z. inr z);
-            only = λ k i ne. stopped-view r s (omega (arith, n .runs .most, sound-parts r (h .shape) (n .sound) .most)) w w .live Start k i;
+            only = λ k i ne. stopped-view r s (omega (arith, running n .most, sound-parts r (h .shape) (n .sound) .most)) w w .live Start k i;
           }) o)
 
 pub told-owed : (w : ℕ → Type 0) (t : Tale) (es : List Event) → Held w (t .run) → Owed (viewOf w (t .run)) → Owed (viewOf w (told t es .run))

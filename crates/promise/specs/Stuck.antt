@@ -40,7 +40,7 @@ use Rattle.run.specs.GoodRuns as run
 use Rattle.sets.specs.Truths.{and-i, clash, fails, or-none, either}
 use Rattle.promise.specs.SetsMembers.{In, in-none, minus-in, minus-out, others-in, others-out, below-in}
 use Rattle.promise.specs.RunViews.{recordOf, record-at, Runs, Placed, placed, Out, out-placed}
-use Rattle.promise.specs.RunEvents.{Accepted, allow}
+use Rattle.promise.specs.RunEvents.{Accepted, accepted-by, allow}
 use Rattle.promise.specs.Classes.{Kind, Start, Yes, No, MoveP, MoveW, Ack, Commit, Abort, IsA, IsC, WP, First, is-a, is-c}
 use Rattle.promise.specs.View.{Lowest}
 use Rattle.promise.specs.Become.{by-site}
@@ -299,18 +299,13 @@ is-act (Act s t) = Unit
 is-act (Stop s) = ⊥
 is-act (Cut s t x) = ⊥
 
-counts : (o : Outcome) → Accepted o → acceptedBy o ≡ 1
-counts Taken a = refl
-counts Passed a = refl
-counts (Refused n) a = absurd a
-
 pub decided-after : (n : ℕ) → 2 ≤ n → n ≤ 8 → (es : List Event) → ((e : Event) → acceptedBy (eventOf (after n es .run) e .outcome) ≡ 1 → (s : ℕ) × (e ≡ Stop s))
     → (i : ℕ) → Runs (after n es .run) i → (recordOf (after n es .run .sites) i .state ≡ C) ⊎ (recordOf (after n es .run .sites) i .state ≡ A)
 unfolding is-act
 decided-after n p q es h i x =
     ⊎-elim (λ a. inr (is-a _ a)) (λ c. inl (is-c _ c))
     (all-decided w r (held-after n p q es) (owed-votes nothing w r (owed-after n p q es)) (g .sound) (sound-parts r (g .bytes .shape) (g .sound))
-    (λ s t a. let e = h (Act s t) (counts (eventOf r (Act s t) .outcome) a) in subst is-act (e .1) tt) i x)
+    (λ s t a. let e = h (Act s t) (accepted-by (eventOf r (Act s t) .outcome) a) in subst is-act (e .1) tt) i x)
   where
     r : Run
     r = after n es .run
