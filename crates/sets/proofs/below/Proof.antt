@@ -1,7 +1,7 @@
 -- `sets::below` meets its contract.
 -- Assumes nothing.
 use native.Mathlib.Omega.{arith}
-use mathlib.Core.Path.{_≡_, ap}
+use mathlib.Core.Path.{ap}
 use Rattle.sets.specs.Sets.{belowOf, allOf}
 use borrow.Author.Needs.{needs}
 use Rattle.sets.proofs.below.Statement.{statement}

@@ -1,7 +1,6 @@
 -- `site::order_at` meets its contract.
 -- Assumes nothing.
 use borrow.Author.Tests.{ne-eqb}
-use Rattle.site.specs.Leader.{orderAt}
 use borrow.Author.Needs.{needs}
 use Rattle.site.proofs.order_at.Statement.{statement}
 use Rattle.site.proofs.order_at.Tie as tie

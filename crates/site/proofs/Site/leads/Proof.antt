@@ -1,6 +1,5 @@
 -- `site::Site::leads` meets its contract.
 -- Assumes nothing.
-use Rattle.site.specs.Leader.{overIn}
 use borrow.Author.Needs.{needs}
 use Rattle.site.proofs.Site.leads.Statement.{statement}
 use Rattle.site.proofs.Site.leads.Tie as tie

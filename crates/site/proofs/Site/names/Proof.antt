@@ -2,7 +2,6 @@
 -- Assumes nothing.
 use mathlib.Core.Path.{_∙_, sym}
 use borrow.Author.Tests.{eq-eqb, ne-eqb, not-true, not-false}
-use Rattle.site.specs.Site.{namesOf}
 use borrow.Author.Needs.{needs}
 use Rattle.site.proofs.Site.names.Statement.{statement}
 use Rattle.site.proofs.Site.names.Tie as tie
