@@ -46,14 +46,14 @@ ruleOf s Conclude = concludeOf s
 unfoldable pub doneOf : Site → Step → Done
 doneOf s t = cond (soundOf s) (cond (namesOf s t) (ruleOf s t) (refused s 2)) (refused s 1)
 
--- "A step reports the number of messages written, counted in the set of receivers, and the number of sites still awaited",
--- of the record as it then is
-abbrev pub counted : Site → ℕ → Counts
-counted s to = record { written = countOf to; awaited = countOf (awaitedOf s) }
-
 -- "zero counts": no message written, nobody awaited
 abbrev pub none : Counts
 none = record { written = 0; awaited = 0 }
+
+-- "A step reports the number of messages written, counted in the set of receivers, and the number of sites still awaited",
+-- of the record as it then is; a refusal reports zeros
+abbrev pub counted : Site → ℕ → Counts
+counted s to = record { written = countOf to; awaited = countOf (awaitedOf s) }
 
 abbrev pub countsOf : Outcome → Site → ℕ → Counts
 countsOf Taken s to = counted s to
