@@ -1,3 +1,4 @@
+-- The C interface: records as bytes, then the calls, a file for each kind.
 pub mod Bytes
 pub mod SiteCall
 pub mod RunCalls
