@@ -11,12 +11,15 @@ pub struct Round {
     pub work: Box<dyn FnMut()>,
 }
 
+/// A row is timed for so long at least: whatever else the machine does is then over for some rounds.
+const LEAST: Duration = Duration::from_millis(400);
+
 pub struct Row {
     /// What is done and how large its input is, in one word.
     pub name: String,
     /// What the time is divided by.
     pub unit: &'static str,
-    /// How often the work is timed. The best time counts.
+    /// How often the work is timed at least. The best time counts.
     rounds: u32,
     ready: Box<dyn Fn(Side) -> Round>,
 }
@@ -49,7 +52,9 @@ impl Row {
     fn best(&self) -> (u32, Duration, Duration) {
         let (mut library, mut plain) = ((self.ready)(Side::Library), (self.ready)(Side::Plain));
         let mut best = (Duration::MAX, Duration::MAX);
-        for round in 0..self.rounds {
+        let (start, mut round) = (Instant::now(), 0);
+        while round < self.rounds || start.elapsed() < LEAST {
+            round += 1;
             if round % 2 == 0 {
                 best.0 = best.0.min(timed(&mut library));
                 best.1 = best.1.min(timed(&mut plain));
