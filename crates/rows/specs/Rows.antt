@@ -15,7 +15,7 @@ use Rattle.site.specs.declared.Step.{Step}
 use Rattle.site.specs.declared.Step.the-variants.{Begin, Start, Deliver, TakeOver, Conclude}
 use Rattle.site.specs.declared.Outcome.the-variants.{Taken, Passed}
 use Rattle.site.specs.declared.Answer.{Answer}
-use Rattle.site.specs.Site.{inState, following, withAcked, soundOf, start, yes, move-p, move-w, ack, abort}
+use Rattle.site.specs.Site.{inState, following, withAcked, soundOf, start, say-yes, move-p, move-w, ack, abort}
 use Rattle.site.specs.Step.{stepOf, none, refusal}
 use Rattle.run.specs.declared.Ran.{Ran}
 use Rattle.run.specs.Run.{freshSite, freshRun}
@@ -94,7 +94,7 @@ starred =
     -- *4 begin at site 2: 5
     ∷ any (λ (v : Vote). step (λ s. s .number ≡ 2) (Begin v) (λ s. refusal s 5))
     -- *5 Start yes at q: w, one Yes
-    ∷ step (λ s. (1 < s .number) × (s .leader ≡ 1) × (s .state ≡ Q)) (Start 1 Yes) (λ s. taken (inState s W) yes (weightOf 1) 1 0)
+    ∷ step (λ s. (1 < s .number) × (s .leader ≡ 1) × (s .state ≡ Q)) (Start 1 Yes) (λ s. taken (inState s W) say-yes (weightOf 1) 1 0)
     -- *6 Move-p at q: 6
     ∷ any (λ (j : ℕ). step (λ s. (j < s .number) × (s .leader ≤ j) × (s .state ≡ Q)) (Deliver move-p j) (λ s. refusal s 6))
     -- *7 site 3 follows 2, Move-p from 1: passed over

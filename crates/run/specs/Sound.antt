@@ -6,7 +6,7 @@ use mathlib.Core.Bool.{Bool, true, false, cond, _&&_, _||_}
 use lib.Dec.{eqb, ltb, leb}
 use lib.ListN.{getD}
 use Rattle.sets.specs.Sets.{minus, subset, allOf, belowOf, othersOf, weightOf}
-use Rattle.site.specs.Site.{soundOf, start, yes, no, ack, isOrder, endsOf}
+use Rattle.site.specs.Site.{soundOf, start, say-yes, say-no, ack, isOrder, endsOf}
 use Rattle.run.specs.declared.Run.{Run}
 use Rattle.run.specs.Run.{siteAt, outstanding, hasStopped}
 
@@ -51,7 +51,7 @@ unfoldable pub mayReach : ℕ → ℕ → ℕ → ℕ
 mayReach n k s =
     cond (leb s n)
     (cond (eqb k start) (cond (eqb s 1) (othersOf n 1) 0)
-    (cond (eqb k yes || eqb k no) (cond (ltb 1 s) (weightOf 1) 0)
+    (cond (eqb k say-yes || eqb k say-no) (cond (ltb 1 s) (weightOf 1) 0)
     (cond (eqb k ack) (belowOf s)
     (cond (isOrder k) (minus (allOf n) (allOf s)) 0))))
     0

@@ -9,7 +9,7 @@ use Rattle.site.specs.declared.Vote.{Vote}
 use Rattle.site.specs.declared.Vote.the-variants.{Yes, No}
 use Rattle.site.specs.declared.Site.{Site}
 use Rattle.site.specs.declared.Done.{Done}
-use Rattle.site.specs.Site.{isQ, inState, withYes, withNo, start, yes, no, move-p, abort, toAll, polls, refused, passed, taken}
+use Rattle.site.specs.Site.{isQ, inState, withYes, withNo, start, say-yes, say-no, move-p, abort, toAll, polls, refused, passed, taken}
 
 -- "Begin with a vote, site 1 in q": yes writes Start to all and goes to w, no writes Abort to all and goes to a; else ground 5
 abbrev pub begun : Vote → Site → Done
@@ -21,8 +21,8 @@ beginOf s v = cond (eqb (s .number) 1 && isQ (s .state)) (begun v s) (refused s 
 
 -- "Start in q, with a vote": Yes to 1 and w, or No to 1 and a. In other states, and from below the leader followed, passed over
 abbrev pub voted : Vote → Site → Done
-voted Yes s = taken (inState s W) yes (weightOf 1)
-voted No s = taken (inState s A) no (weightOf 1)
+voted Yes s = taken (inState s W) say-yes (weightOf 1)
+voted No s = taken (inState s A) say-no (weightOf 1)
 
 unfoldable pub startOf : Site → ℕ → Vote → Done
 startOf s from v = cond (not (ltb from (s .leader)) && isQ (s .state)) (voted v s) (passed s)

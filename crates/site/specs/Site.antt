@@ -37,84 +37,38 @@ isP C = false
 
 -- ---- "A site record has"
 
--- the record with another state, another leader, another one of its four sets
-abbrev pub inState : Site → State → Site
-inState s q =
+-- the record with these in place of its state, its leader and its four sets
+abbrev changed : Site → State → ℕ → ℕ → ℕ → ℕ → ℕ → Site
+changed s q leader known yeses noes acked =
     record {
       n = s .n;
       number = s .number;
       state = q;
-      leader = s .leader;
-      known = s .known;
-      yes = s .yes;
-      no = s .no;
-      acked = s .acked;
+      leader = leader;
+      known = known;
+      yes = yeses;
+      no = noes;
+      acked = acked;
     }
+
+-- the record with another state, another leader, another one of its four sets
+abbrev pub inState : Site → State → Site
+inState s q = changed s q (s .leader) (s .known) (s .yes) (s .no) (s .acked)
 
 abbrev pub following : Site → ℕ → Site
-following s k =
-    record {
-      n = s .n;
-      number = s .number;
-      state = s .state;
-      leader = k;
-      known = s .known;
-      yes = s .yes;
-      no = s .no;
-      acked = s .acked;
-    }
+following s k = changed s (s .state) k (s .known) (s .yes) (s .no) (s .acked)
 
 abbrev pub knowing : Site → ℕ → Site
-knowing s m =
-    record {
-      n = s .n;
-      number = s .number;
-      state = s .state;
-      leader = s .leader;
-      known = m;
-      yes = s .yes;
-      no = s .no;
-      acked = s .acked;
-    }
+knowing s m = changed s (s .state) (s .leader) m (s .yes) (s .no) (s .acked)
 
 abbrev pub withYes : Site → ℕ → Site
-withYes s m =
-    record {
-      n = s .n;
-      number = s .number;
-      state = s .state;
-      leader = s .leader;
-      known = s .known;
-      yes = m;
-      no = s .no;
-      acked = s .acked;
-    }
+withYes s m = changed s (s .state) (s .leader) (s .known) m (s .no) (s .acked)
 
 abbrev pub withNo : Site → ℕ → Site
-withNo s m =
-    record {
-      n = s .n;
-      number = s .number;
-      state = s .state;
-      leader = s .leader;
-      known = s .known;
-      yes = s .yes;
-      no = m;
-      acked = s .acked;
-    }
+withNo s m = changed s (s .state) (s .leader) (s .known) (s .yes) m (s .acked)
 
 abbrev pub withAcked : Site → ℕ → Site
-withAcked s m =
-    record {
-      n = s .n;
-      number = s .number;
-      state = s .state;
-      leader = s .leader;
-      known = s .known;
-      yes = s .yes;
-      no = s .no;
-      acked = m;
-    }
+withAcked s m = changed s (s .state) (s .leader) (s .known) (s .yes) (s .no) m
 
 -- "It is sound when": 2 to 8 sites, its own number among them, a leader from 1 to its own number, and four sets of other sites
 abbrev pub named : Site → ℕ
@@ -137,11 +91,11 @@ leads s = eqb (s .leader) (s .number)
 abbrev pub start : ℕ
 start = 1
 
-abbrev pub yes : ℕ
-yes = 2
+abbrev pub say-yes : ℕ
+say-yes = 2
 
-abbrev pub no : ℕ
-no = 3
+abbrev pub say-no : ℕ
+say-no = 3
 
 abbrev pub move-p : ℕ
 move-p = 4
@@ -166,7 +120,7 @@ isOrder k = eqb k move-p || eqb k move-w || eqb k commit || eqb k abort
 unfoldable pub endsOf : ℕ → ℕ → ℕ → Bool
 endsOf k from to =
     cond (eqb k start) (eqb from 1 && ltb 1 to)
-    (cond (eqb k yes || eqb k no) (ltb 1 from && eqb to 1)
+    (cond (eqb k say-yes || eqb k say-no) (ltb 1 from && eqb to 1)
     (cond (eqb k ack) (ltb to from)
     (cond (isOrder k) (ltb from to) false)))
 

@@ -13,7 +13,7 @@ use Rattle.site.specs.declared.Outcome.the-variants.{Taken, Passed, Refu
 use Rattle.site.specs.declared.Done.{Done}
 use Rattle.site.specs.declared.Counts.{Counts}
 use Rattle.site.specs.declared.Answer.{Answer}
-use Rattle.site.specs.Site.{knowing, soundOf, yes, no, ack, namesOf, polls, awaitedOf, refused, passed, taken}
+use Rattle.site.specs.Site.{knowing, soundOf, say-yes, say-no, ack, namesOf, polls, awaitedOf, refused, passed, taken}
 use Rattle.site.specs.First.{beginOf, startOf, voteOf, tallyOf}
 use Rattle.site.specs.Leader.{obeyOf, ackOf, takeOverOf, settleOf}
 
@@ -29,8 +29,8 @@ concludeOf s = cond (polls s) (tallyOf s) (settleOf s)
 -- a delivered message of kind k that is no Start
 unfoldable pub deliverOf : Site → ℕ → ℕ → Done
 deliverOf s k from =
-    cond (eqb k yes) (voteOf s from Yes)
-    (cond (eqb k no) (voteOf s from No)
+    cond (eqb k say-yes) (voteOf s from Yes)
+    (cond (eqb k say-no) (voteOf s from No)
     (cond (eqb k ack) (ackOf s from) (obeyOf s k from)))
 
 -- each step's own rule
