@@ -7,7 +7,7 @@ use std::path::Path;
 const PAGE: &str = include_str!("../../../../docs/SHEETS.md");
 
 /// The path and the text of each sheet.
-fn sheets() -> Vec<(String, String)> {
+pub fn sheets() -> Vec<(String, String)> {
     let folder = concat!(env!("CARGO_MANIFEST_DIR"), "/../../gallery");
     let entries = std::fs::read_dir(folder).expect("the gallery is there");
     let files = entries.map(|entry| entry.expect("it can be listed").path());

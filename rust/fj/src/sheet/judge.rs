@@ -2,6 +2,8 @@
 
 use super::library::{Decision, Finding, Judgement};
 use super::model::{Local, Mark, Sheet};
+use super::search::Search;
+use super::{explain, warnings};
 
 /// The width at which concurrency sets are broken.
 const WIDTH: usize = 60;
@@ -16,7 +18,10 @@ pub fn text(sheet: &Sheet, judgement: &Judgement) -> String {
     for site in 1..=sheet.sites.len() {
         text += &table(sheet, judgement, site as u8);
     }
-    text + &verdict(sheet, judgement) + &blocked(sheet, judgement) + &mixed(sheet, judgement)
+    text += &(verdict(sheet, judgement) + &blocked(sheet, judgement));
+    let search = Search::of(sheet);
+    text += &explain::text(sheet, judgement, &search);
+    text + &warnings::text(sheet, judgement, &search)
 }
 
 /// The lines of one site's states.
@@ -102,22 +107,6 @@ fn reasons(sheet: &Sheet, found: &Finding) -> String {
     }
     if !found.committable {
         text += &format!("  condition 2: another site may have committed ({commits}), and not every site is known to have voted yes\n");
-    }
-    text
-}
-
-/// A warning for each commit state that is found together with an abort state: Skeen calls such a
-/// global state inconsistent, and his conditions are about protocols that have none.
-fn mixed(sheet: &Sheet, judgement: &Judgement) -> String {
-    let marked = |local: &Local, mark| sheet.state(*local).mark == mark;
-    let mut text = String::new();
-    for local in sheet.locals().into_iter().filter(|local| marked(local, Mark::Commit)) {
-        let set = judgement.of(local).set.iter().filter(|other| marked(other, Mark::Abort));
-        let names: Vec<String> = set.map(|&other| sheet.called(other)).collect();
-        if !names.is_empty() {
-            let (commit, aborts) = (sheet.called(local), names.join(", "));
-            text += &format!("\ninconsistent: {commit} is found together with {aborts}\n");
-        }
     }
     text
 }

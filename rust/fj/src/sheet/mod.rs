@@ -4,6 +4,9 @@
 #[cfg(test)]
 mod bridge_tests;
 mod draw;
+mod explain;
+#[cfg(test)]
+mod explain_tests;
 #[cfg(test)]
 mod gallery_tests;
 mod judge;
@@ -11,9 +14,11 @@ mod library;
 mod model;
 mod notation;
 mod refusal;
+mod search;
 mod show;
 #[cfg(test)]
 mod tests;
+mod warnings;
 
 use model::Sheet;
 use std::io::Read;

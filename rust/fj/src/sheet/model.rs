@@ -33,7 +33,7 @@ pub enum Mark {
 }
 
 /// A transition, with the line of the notation that says it (0 where bytes do).
-#[derive(Clone, Copy, Debug)]
+#[derive(Clone, Copy, Debug, PartialEq, Eq)]
 pub struct Transition {
     pub site: u8,
     pub from: u8,

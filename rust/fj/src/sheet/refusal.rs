@@ -1,8 +1,8 @@
 //! A refusal in words: 01's number, its sentence and, where it can be pointed at, the place.
 
 use super::model::{Mark, Sheet, Transition};
+use super::search::{Global, Search};
 use crate::grounds::sentence;
-use std::collections::BTreeSet;
 
 /// `refused 26: a transition reads nothing (line 12: 1: q -> w)`
 pub fn text(ground: u8, sheet: Option<&Sheet>) -> String {
@@ -81,29 +81,13 @@ fn cycle(sheet: &Sheet, site: u8) -> Option<String> {
     }
 }
 
-/// A transition that writes what is outstanding already, found by walking through the local states
-/// and outstanding messages that are reachable.
+/// A transition that writes what is outstanding already, in a global state that can be reached.
 fn clash(sheet: &Sheet) -> Option<String> {
-    let first = (vec![0; sheet.sites.len()], sheet.first);
-    let mut seen = BTreeSet::from([first.clone()]);
-    let mut open = vec![first];
-    while let Some((states, outstanding)) = open.pop() {
-        for (number, t) in sheet.transitions.iter().enumerate() {
-            let site = usize::from(t.site) - 1;
-            if states[site] != t.from || outstanding & t.reads != t.reads {
-                continue;
-            }
-            let left = outstanding & !t.reads;
-            if left & t.writes != 0 {
-                let names = sheet.names(left & t.writes).join(" ");
-                return Some(format!("{names}: {}", described(sheet, number)));
-            }
-            let mut next = (states.clone(), left | t.writes);
-            next.0[site] = t.to;
-            if seen.insert(next.clone()) {
-                open.push(next);
-            }
-        }
-    }
-    None
+    let twice = |global: &Global, t: &Transition| global.outstanding & !t.reads & t.writes;
+    Search::of(sheet).states.iter().find_map(|global| {
+        let clashes = |t: &Transition| global.allows(t) && twice(global, t) != 0;
+        let number = sheet.transitions.iter().position(clashes)?;
+        let names = sheet.names(twice(global, &sheet.transitions[number])).join(" ");
+        Some(format!("{names}: {}", described(sheet, number)))
+    })
 }

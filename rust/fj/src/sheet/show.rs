@@ -4,6 +4,8 @@ use super::model::{Sheet, Transition};
 
 /// The width at which lists of messages are broken.
 const WIDTH: usize = 96;
+/// The widest column that others are aligned with.
+const COLUMN: usize = 40;
 
 /// The notation of a sheet. Read again, it gives the same bytes.
 pub fn notation(sheet: &Sheet) -> String {
@@ -39,32 +41,44 @@ fn messages(sheet: &Sheet) -> String {
 
 /// The transitions in their order, with a gap wherever another site follows.
 fn transitions(sheet: &Sheet) -> String {
-    let ways: Vec<String> = sheet.transitions.iter().map(|t| way(sheet, t)).collect();
-    let width = ways.iter().map(|way| way.chars().count()).max().unwrap_or(0);
     let (mut text, mut site) = (String::new(), 0);
-    for (t, way) in sheet.transitions.iter().zip(&ways) {
+    for (t, line) in sheet.transitions.iter().zip(aligned(sheet, sheet.transitions.iter())) {
         if t.site != site {
             text += "\n";
             site = t.site;
         }
-        text += format!("{way:width$}{}", clauses(sheet, t)).trim_end();
-        text += "\n";
+        text += &format!("{line}\n");
     }
     text
 }
 
-/// `1: q -> w`
-fn way(sheet: &Sheet, t: &Transition) -> String {
-    let name = |state| &sheet.state((t.site, state)).name;
-    format!("{}: {} -> {}", t.site, name(t.from), name(t.to))
+/// A line for each transition, with what they read and write below each other.
+pub fn aligned<'a>(
+    sheet: &Sheet,
+    transitions: impl Iterator<Item = &'a Transition>,
+) -> Vec<String> {
+    let rows: Vec<[String; 3]> = transitions.map(|t| columns(sheet, t)).collect();
+    // A long list pushes its own line aside, and no other.
+    let width = |column: usize| {
+        let widths = rows.iter().map(|row| row[column].chars().count());
+        widths.filter(|&width| width <= COLUMN).max().unwrap_or(0)
+    };
+    let (way, reads) = (width(0), width(1));
+    let line = |[to, read, rest]: &[String; 3]| format!("{to:way$}  {read:reads$}  {rest}");
+    rows.iter().map(|row| line(row).trim_end().to_string()).collect()
 }
 
-/// What a transition reads and writes, and its vote.
-fn clauses(sheet: &Sheet, t: &Transition) -> String {
+/// A transition in columns: its states, what it reads, and what it writes with its vote.
+fn columns(sheet: &Sheet, t: &Transition) -> [String; 3] {
+    let name = |state| &sheet.state((t.site, state)).name;
     let list = |word: &str, set: u32| match set {
         0 => String::new(),
-        set => format!("  {word} {}", sheet.names(set).join(" ")),
+        set => format!("{word} {}  ", sheet.names(set).join(" ")),
     };
-    let vote = if t.votes { "  votes yes" } else { "" };
-    list("reads", t.reads) + &list("writes", t.writes) + vote
+    let vote = if t.votes { "votes yes" } else { "" };
+    [
+        format!("{}: {} -> {}", t.site, name(t.from), name(t.to)),
+        list("reads", t.reads).trim_end().to_string(),
+        list("writes", t.writes) + vote,
+    ]
 }

@@ -209,14 +209,6 @@ fn a_report_with_names() {
 }
 
 #[test]
-fn an_inconsistent_protocol_is_warned_of() {
-    let sheet = read("state a abort\n1: q -> c reads go\n2: q -> a reads done");
-    let sheet = Sheet { first: 3, ..sheet };
-    let text = judge::text(&sheet, &library::judge(&sheet.bytes()).expect("it is accepted"));
-    assert!(text.ends_with("\ninconsistent: 1.1 c is found together with 2.2 a\n"), "{text}");
-}
-
-#[test]
 fn a_drawing_marks_what_is_blocked() {
     for (name, blocked) in [("central-two-phase-3", 2), ("central-three-phase-3", 0)] {
         let sheet = notation::read(&gallery(name)).expect("the gallery is good");

@@ -3,6 +3,7 @@
 use super::label::Label;
 use super::place::{Item, Join, Placed, Rows};
 use super::svg::{block, escaped, text, text_width};
+use super::Subject;
 use crate::sheet::library::{Decision, Finding, Judgement};
 use crate::sheet::model::{Local, Mark, Sheet, Transition};
 use std::collections::BTreeMap;
@@ -25,7 +26,8 @@ const NAME: f64 = 14.0;
 const CAPTION: f64 = 11.0;
 
 /// The diagram of a site.
-pub fn diagram(sheet: &Sheet, judged: Option<&Judgement>, site: u8) -> Diagram {
+pub fn diagram(subject: &Subject, site: u8) -> Diagram {
+    let (sheet, judged) = (subject.sheet, subject.judged);
     let own: Vec<Local> = sheet.locals().into_iter().filter(|local| local.0 == site).collect();
     let ranks = ranks(sheet, site, own.len());
     let leans = leans(sheet, site, &ranks);
@@ -38,7 +40,7 @@ pub fn diagram(sheet: &Sheet, judged: Option<&Judgement>, site: u8) -> Diagram {
         let item = Item { left: half, right, height: 2.0 * RADIUS, lean };
         rows.add(2 * ranks[local.1 as usize], item);
     }
-    let arrows = arrows(sheet, site, &ranks, &leans, &mut rows);
+    let arrows = arrows(subject, site, &ranks, &leans, &mut rows);
     let placed = rows.placed();
     let mut svg: String = arrows.iter().map(|arrow| arrow.draw(sheet, site, &placed)).collect();
     svg += &own.iter().map(|&local| state(sheet, judged, local, &placed)).collect::<String>();
@@ -77,15 +79,22 @@ fn leans(sheet: &Sheet, site: u8, ranks: &[usize]) -> Vec<f64> {
 }
 
 /// The arrows of a site, one for each pair of states, with labels and bends put into the rows.
-fn arrows(sheet: &Sheet, site: u8, ranks: &[usize], leans: &[f64], rows: &mut Rows) -> Vec<Arrow> {
-    let mut ways: BTreeMap<(u8, u8), Vec<&Transition>> = BTreeMap::new();
-    for t in sheet.transitions.iter().filter(|t| t.site == site) {
-        ways.entry((t.from, t.to)).or_default().push(t);
+fn arrows(
+    subject: &Subject,
+    site: u8,
+    ranks: &[usize],
+    leans: &[f64],
+    rows: &mut Rows,
+) -> Vec<Arrow> {
+    let mut ways: BTreeMap<(u8, u8), Vec<usize>> = BTreeMap::new();
+    for (number, t) in subject.sheet.transitions.iter().enumerate().filter(|(_, t)| t.site == site)
+    {
+        ways.entry((t.from, t.to)).or_default().push(number);
     }
     let mut arrows = Vec::new();
     for ((from, to), transitions) in ways {
         let (from, to) = (from as usize, to as usize);
-        let label = Label::new(sheet, &transitions);
+        let label = Label::new(subject, &transitions);
         let (half, lean) = (label.width / 2.0, (leans[from] + leans[to]) / 2.0);
         let first = 2 * ranks[from] + 1;
         let item = Item { left: half, right: half, height: label.height, lean };

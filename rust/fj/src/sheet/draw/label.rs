@@ -1,8 +1,8 @@
 //! The label of an arrow: for each of its transitions what is read above a bar and what is written
 //! below it, as in Skeen's figures.
 
-use super::svg::{line, text, text_width};
-use crate::sheet::model::{Sheet, Transition};
+use super::svg::{broken, line, text, text_width};
+use super::Subject;
 
 /// The labels of the transitions between two states, in columns.
 pub struct Label {
@@ -17,6 +17,8 @@ struct Part {
     above: Vec<String>,
     below: Vec<String>,
     votes: bool,
+    /// Where it stands on the ways to the verdict, or nothing.
+    steps: String,
 }
 
 const SIZE: f64 = 11.0;
@@ -28,8 +30,9 @@ const SIDE: f64 = 6.0;
 const BREAK: f64 = 190.0;
 
 impl Label {
-    pub fn new(sheet: &Sheet, transitions: &[&Transition]) -> Label {
-        let parts: Vec<Part> = transitions.iter().map(|t| Part::new(sheet, t)).collect();
+    /// The label of some transitions, by their places in the sheet.
+    pub fn new(subject: &Subject, transitions: &[usize]) -> Label {
+        let parts: Vec<Part> = transitions.iter().map(|&t| Part::new(subject, t)).collect();
         let columns = parts.len().isqrt();
         let mut label = Label { parts, columns, width: 0.0, height: 0.0 };
         let size = |column: &[Part]| {
@@ -64,19 +67,25 @@ impl Label {
 }
 
 impl Part {
-    fn new(sheet: &Sheet, t: &Transition) -> Part {
-        let list = |set| broken(&sheet.names(set));
-        Part { above: list(t.reads), below: list(t.writes), votes: t.votes }
+    fn new(subject: &Subject, number: usize) -> Part {
+        let t = &subject.sheet.transitions[number];
+        let list = |set| match &subject.sheet.names(set)[..] {
+            [] => vec!["\u{2013}".to_string()],
+            names => broken(names.iter().copied(), SIZE, BREAK),
+        };
+        let steps = subject.steps.get(number).cloned().unwrap_or_default();
+        Part { above: list(t.reads), below: list(t.writes), votes: t.votes, steps }
     }
 
     fn width(&self) -> f64 {
-        let lines = self.above.iter().chain(&self.below);
+        let lines = self.above.iter().chain(&self.below).chain([&self.steps]);
         let widest = lines.map(|line| text_width(line, SIZE)).fold(0.0, f64::max);
         widest.max(if self.votes { text_width(VOTES, SIZE) } else { 24.0 })
     }
 
     fn height(&self) -> f64 {
-        (self.above.len() + self.below.len() + self.votes as usize) as f64 * LINE + BAR
+        let extra = usize::from(self.votes) + usize::from(!self.steps.is_empty());
+        (self.above.len() + self.below.len() + extra) as f64 * LINE + BAR
     }
 
     fn draw(&self, x: f64, top: f64) -> String {
@@ -93,27 +102,12 @@ impl Part {
         if self.votes {
             put(VOTES, "label vote", &mut y);
         }
+        if !self.steps.is_empty() {
+            put(&self.steps, "label step", &mut y);
+        }
         let half = self.width() / 2.0;
         svg + &line(x - half, bar, x + half, bar, "bar")
     }
 }
 
 const VOTES: &str = "votes yes";
-
-/// A list of messages in lines; one that is empty is a dash.
-fn broken(names: &[&str]) -> Vec<String> {
-    let mut lines: Vec<String> = Vec::new();
-    for name in names {
-        match lines.last_mut() {
-            Some(line) if text_width(line, SIZE) + text_width(name, SIZE) < BREAK => {
-                *line += &format!(" {name}");
-            }
-            _ => lines.push(name.to_string()),
-        }
-    }
-    if lines.is_empty() {
-        vec!["\u{2013}".to_string()]
-    } else {
-        lines
-    }
-}

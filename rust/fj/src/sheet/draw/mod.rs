@@ -7,20 +7,22 @@ mod svg;
 
 use super::library::Judgement;
 use super::model::Sheet;
-use super::refusal;
+use super::search::Search;
+use super::{explain, refusal, warnings};
 use diagram::{diagram, Diagram};
-use svg::{moved, text, text_width};
+use svg::{broken, moved, text, text_width};
 
 const STYLE: &str = "\
 text { font-family: Helvetica, Arial, 'DejaVu Sans', sans-serif; fill: #222 }
 .title { font-size: 18px; font-weight: bold }
-.verdict { font-size: 13px }
+.verdict, .warning { font-size: 13px }
 .site { font-size: 14px; font-weight: bold }
 .name { font-size: 14px }
 .caption { font-size: 11px; fill: #555; paint-order: stroke; stroke: white; stroke-width: 4px }
 .stuck { font-weight: bold; fill: #c01010 }
 .label { font-size: 11px }
 .vote { font-style: italic; fill: #146c2e }
+.step, .warning { fill: #c01010 }
 .legend { font-size: 11px; fill: #555 }
 .page, .behind { fill: white }
 .panel { fill: none; stroke: #ccc }
@@ -45,28 +47,61 @@ const LEGEND: [&str; 3] = [
 const MARGIN: f64 = 20.0;
 const HEAD: f64 = 34.0;
 const FULL: f64 = 1400.0;
+/// The width at which long lines above and below the diagrams are broken.
+const READABLE: f64 = 660.0;
+
+/// What is drawn: a sheet, what was found about it, and for each transition where it stands on the
+/// ways to a blocking verdict.
+pub struct Subject<'a> {
+    sheet: &'a Sheet,
+    judged: Option<&'a Judgement>,
+    steps: Vec<String>,
+}
+
+/// A line above the diagrams, in its class.
+type Line = (&'static str, String);
 
 /// The drawing of a sheet, with its judgement or the ground (30 or 31) on which it has none.
 pub fn svg(sheet: &Sheet, judged: &Result<Judgement, u8>) -> String {
-    let sites = 1..=sheet.sites.len() as u8;
-    let diagrams: Vec<Diagram> =
-        sites.map(|site| diagram(sheet, judged.as_ref().ok(), site)).collect();
-    let head = head(sheet, judged);
+    let mut subject = Subject { sheet, judged: judged.as_ref().ok(), steps: Vec::new() };
+    let mut head = head(sheet, judged);
+    let mut legend: Vec<String> = LEGEND.map(str::to_string).to_vec();
+    if let Ok(judgement) = judged {
+        let search = Search::of(sheet);
+        let ways = explain::ways(sheet, judgement, &search);
+        subject.steps = explain::steps(sheet, &ways);
+        legend.extend(folded(&explain::legend(sheet, judgement, &ways), 9.5));
+        for warning in warnings::warnings(sheet, judgement, &search) {
+            let lines = folded(&format!("Warning: {}", warning.text), 14.0);
+            head.extend(lines.into_iter().map(|line| ("warning", line)));
+        }
+    }
+    page(&subject, &head, &legend)
+}
+
+/// A text in lines that can be read easily.
+fn folded(text: &str, size: f64) -> Vec<String> {
+    broken(text.split(' ').filter(|word| !word.is_empty()), size, READABLE)
+}
+
+/// The whole drawing: the diagrams between the lines above and below them.
+fn page(subject: &Subject, head: &[Line], legend: &[String]) -> String {
+    let sites = 1..=subject.sheet.sites.len() as u8;
+    let diagrams: Vec<Diagram> = sites.map(|site| diagram(subject, site)).collect();
     let top = MARGIN + 22.0 * head.len() as f64;
-    let (panels, width, height) = panels(sheet, &diagrams, top);
-    let texts = head.iter().map(|line| text_width(line, 14.0));
-    let legend = LEGEND.iter().map(|line| text_width(line, 9.5));
-    let width = texts.chain(legend).fold(width, f64::max) + 2.0 * MARGIN;
+    let (panels, width, height) = panels(subject.sheet, &diagrams, top);
+    let texts = head.iter().map(|(_, line)| text_width(line, 14.0));
+    let notes = legend.iter().map(|line| text_width(line, 9.5));
+    let width = texts.chain(notes).fold(width, f64::max) + 2.0 * MARGIN;
     let mut body = String::new();
-    for (place, line) in head.iter().enumerate() {
-        let class = if place == 0 { "title" } else { "verdict" };
+    for (place, (class, line)) in head.iter().enumerate() {
         body += &text(MARGIN, MARGIN + 14.0 + 22.0 * place as f64, "start", class, line);
     }
     body += &panels;
-    for (place, line) in LEGEND.iter().enumerate() {
+    for (place, line) in legend.iter().enumerate() {
         body += &text(MARGIN, height + 18.0 + 15.0 * place as f64, "start", "legend", line);
     }
-    let height = height + 18.0 + 15.0 * LEGEND.len() as f64;
+    let height = height + 18.0 + 15.0 * legend.len() as f64;
     format!(
         "<svg xmlns=\"http://www.w3.org/2000/svg\" width=\"{width:.0}\" height=\"{height:.0}\" viewBox=\"0 0 {width:.0} {height:.0}\">\n\
          <style>\n{STYLE}</style>\n<defs>{TIP}</defs>\n\
@@ -74,8 +109,8 @@ pub fn svg(sheet: &Sheet, judged: &Result<Judgement, u8>) -> String {
     )
 }
 
-/// The lines above the diagrams.
-fn head(sheet: &Sheet, judged: &Result<Judgement, u8>) -> Vec<String> {
+/// The title and the verdict.
+fn head(sheet: &Sheet, judged: &Result<Judgement, u8>) -> Vec<Line> {
     let title = match sheet.title.is_empty() {
         true => format!("A sheet of {} sites", sheet.sites.len()),
         false => sheet.title.clone(),
@@ -96,7 +131,7 @@ fn head(sheet: &Sheet, judged: &Result<Judgement, u8>) -> Vec<String> {
         0 => "nothing is outstanding at first".to_string(),
         set => format!("outstanding at first: {}", sheet.names(set).join(" ")),
     };
-    vec![title, format!("{verdict}; {first}")]
+    vec![("title", title), ("verdict", format!("{verdict}; {first}"))]
 }
 
 /// The diagrams in one row or, where that would be too wide, in two; framed, with the width and the

@@ -12,6 +12,20 @@ pub fn text_width(text: &str, size: f64) -> f64 {
     text.chars().map(of).sum::<f64>() * size
 }
 
+/// Words in lines of about a width.
+pub fn broken<'a>(words: impl Iterator<Item = &'a str>, size: f64, width: f64) -> Vec<String> {
+    let mut lines: Vec<String> = Vec::new();
+    for word in words {
+        match lines.last_mut() {
+            Some(line) if text_width(line, size) + text_width(word, size) < width => {
+                *line += &format!(" {word}");
+            }
+            _ => lines.push(word.to_string()),
+        }
+    }
+    lines
+}
+
 /// A text with what SVG reserves written out.
 pub fn escaped(text: &str) -> String {
     text.replace('&', "&amp;").replace('<', "&lt;").replace('>', "&gt;")
