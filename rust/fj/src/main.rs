@@ -3,6 +3,7 @@
 
 mod chart;
 mod grounds;
+mod letters;
 mod notation;
 mod rehearsal;
 mod sheet;

@@ -1,6 +1,7 @@
 //! What the signs of a chart mean.
 
-use super::layout::{width, MARGIN, WIDTH};
+use super::layout::{MARGIN, WIDTH};
+use super::svg::width;
 use super::{badge, refusal, Svg};
 
 /// Draws the legend from a height on: the states in one line, messages and events in the next.
@@ -42,5 +43,5 @@ fn messages(svg: &mut Svg, y: f64) {
 /// Writes a word and gives the place where the next sign begins.
 fn word_after(svg: &mut Svg, x: f64, y: f64, word: &str) -> f64 {
     svg.text("note", (x, y + 4.0), word);
-    x + width(word) + 22.0
+    x + width("note", word) + 18.0
 }

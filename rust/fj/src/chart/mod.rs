@@ -1,6 +1,11 @@
 //! `fj chart`: a run as a sequence chart. Time runs down; each site is a line, each event a row.
 
 mod arrows;
+mod cuts;
+mod geometry;
+#[cfg(test)]
+mod label_tests;
+mod labels;
 mod layout;
 mod legend;
 mod story;
@@ -10,11 +15,19 @@ mod tests;
 
 use crate::grounds::sentence;
 use crate::rehearsal::{records, transcript, Verdict};
-use layout::{Layout, MARGIN, NUMBERS, WIDTH, WORDS};
+use geometry::Point;
+use layout::{Layout, LINE, MARGIN, NUMBERS, WIDTH, WORDS};
+use std::collections::BTreeSet;
 use story::{Row, Run, Story};
-use svg::{Point, Svg};
+use svg::{width, Svg};
 
 const STYLE: &str = include_str!("style.css");
+
+/// The tallest picture that the usual programs take.
+const TALLEST: f64 = 32_767.0;
+
+/// How often a chart is drawn, each time with more room where labels had too little.
+const TRIES: usize = 12;
 
 /// The chart of a journal, under a title.
 pub fn chart(journal: &[u8], title: Option<&str>) -> Result<String, String> {
@@ -25,17 +38,44 @@ pub fn chart(journal: &[u8], title: Option<&str>) -> Result<String, String> {
     };
     let story = Story::new(n, &records(&transcript, journal));
     let title = title.map_or_else(|| format!("A run of {n} sites"), str::to_string);
-    let layout = Layout::new(&story, &title);
-    let mut chart = Chart { svg: Svg::default(), story: &story, layout: &layout };
-    chart.heading(&transcript);
+    let (mut room, mut tries) = (vec![0.0; story.rows.len() + 1], TRIES);
+    loop {
+        let layout = Layout::new(&story, &title, &room);
+        if layout.height() > TALLEST {
+            return Err(too_tall(story.rows.len(), layout.height()));
+        }
+        let (svg, crowded) = drawn(&story, &layout, &transcript);
+        tries -= 1;
+        if crowded.is_empty() || tries == 0 {
+            return Ok(svg.finish(WIDTH, layout.height(), &title, STYLE));
+        }
+        BTreeSet::from_iter(crowded).into_iter().for_each(|row| room[row] += LINE);
+    }
+}
+
+/// Why there is no chart of so many events. A run accepts some hundreds at most, so that a journal
+/// without refused ones always has its chart.
+fn too_tall(events: usize, height: f64) -> String {
+    format!(
+        "a chart of {events} events would be {height:.0} pixels tall, and a picture can have \
+         {TALLEST}: leave out events that are refused"
+    )
+}
+
+/// A story drawn by a layout, and the rows before which a label had too little room.
+fn drawn(story: &Story, layout: &Layout, transcript: &str) -> (Svg, Vec<usize>) {
+    let mut above = Chart { svg: Svg::default(), story, layout };
+    above.events();
+    above.ends();
+    legend::legend(&mut above.svg, layout.legend());
+    above.notes();
+    let mut chart = Chart { svg: Svg::default(), story, layout };
+    chart.heading(transcript);
     chart.guides();
     story.fresh.sites().for_each(|site| chart.life(site));
-    chart.messages();
-    chart.events();
-    chart.ends();
-    legend::legend(&mut chart.svg, layout.legend());
-    chart.notes();
-    Ok(chart.svg.finish(WIDTH, layout.height(), &title, STYLE))
+    let crowded = chart.messages(&above.svg);
+    chart.svg.append(above.svg);
+    (chart.svg, crowded)
 }
 
 struct Chart<'a> {
@@ -87,8 +127,8 @@ impl Chart<'_> {
         for (place, row) in self.story.rows.iter().enumerate() {
             let y = self.layout.rows[place];
             let end = row.site.map_or(self.layout.lane(1) - 30.0, |site| self.layout.lane(site));
-            let widest = self.layout.gutter[place].iter().map(|line| line.len()).max();
-            let start = WORDS + 6.7 * widest.unwrap_or_default() as f64 + 8.0;
+            let widths = self.layout.gutter[place].iter().map(|line| width("words", line));
+            let start = WORDS + widths.fold(0.0, f64::max) + 8.0;
             if start < end {
                 self.svg.line("guide", (start, y), (end, y));
             }
@@ -99,7 +139,7 @@ impl Chart<'_> {
                 Verdict::Refused(_) | Verdict::Bad(_) => "refused",
             };
             for (line, words) in self.layout.gutter[place].iter().enumerate() {
-                self.svg.text(class, (WORDS, y + 4.5 + layout::LINE * line as f64), words);
+                self.svg.text(class, (WORDS, y + 4.5 + LINE * line as f64), words);
             }
         }
     }
@@ -172,10 +212,9 @@ impl Chart<'_> {
 
     /// The sentences of the grounds that were given.
     fn notes(&mut self) {
-        for (place, ground) in layout::grounds(self.story).into_iter().enumerate() {
+        for (place, note) in self.layout.notes.iter().enumerate() {
             let y = self.layout.notes() + 18.0 * place as f64;
-            let note = format!("Refused {ground}: {}.", sentence(ground));
-            self.svg.text("note", (MARGIN, y), &note);
+            self.svg.text("note", (MARGIN, y), note);
         }
     }
 }

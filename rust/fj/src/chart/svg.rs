@@ -1,11 +1,46 @@
 //! A picture as SVG text.
 
-/// A point, in pixels from the upper left corner.
-pub type Point = (f64, f64);
+use super::geometry::{bends, direction, Point, Rect};
+use crate::letters;
 
+/// The size of a text's letters by its class, and the part of it that stands left of its place, as
+/// the style has them.
+fn letters(class: &str) -> (f64, f64) {
+    match class.split(' ').next().unwrap_or_default() {
+        "title" => (19.0, 0.0),
+        "site" => (13.0, 0.5),
+        "place" => (13.0, 1.0),
+        "letter" | "mark" => (12.0, 0.5),
+        "label" => (11.5, 0.5),
+        "note" => (12.0, 0.0),
+        _ => (13.0, 0.0),
+    }
+}
+
+/// The width of a text in a class.
+pub fn width(class: &str, text: &str) -> f64 {
+    letters::width(text, letters(class).0)
+}
+
+/// The room that a text takes whose base line is at a place.
+pub fn text_box(class: &str, (x, y): Point, text: &str) -> Rect {
+    let ((size, before), width) = (letters(class), width(class, text));
+    let left = x - before * width;
+    Rect { left, top: y - 0.8 * size, right: left + width, bottom: y + 0.25 * size }
+}
+
+/// A text in lines of at most a width.
+pub fn wrapped(class: &str, text: &str, most: f64) -> Vec<String> {
+    let size = letters(class).0;
+    let words = text.split_whitespace().flat_map(|word| letters::pieces(word, size, most));
+    letters::lines(words, size, most)
+}
+
+/// Shapes, and the room that texts and marks among them take.
 #[derive(Default)]
 pub struct Svg {
     shapes: String,
+    pub taken: Vec<Rect>,
 }
 
 impl Svg {
@@ -17,26 +52,22 @@ impl Svg {
 
     /// A smooth line through points.
     pub fn curve(&mut self, class: &str, points: &[Point]) {
-        let at = |place: usize| points[place.min(points.len() - 1)];
-        let (x, y) = at(0);
+        let (x, y) = points[0];
         let mut path = format!("M{x:.1} {y:.1}");
-        for place in 1..points.len() {
-            // A sixth of the way between its neighbours is the slope at a point (Catmull and Rom).
-            let (before, from, to, after) =
-                (at(place.saturating_sub(2)), at(place - 1), at(place), at(place + 1));
-            let (ax, ay) = (from.0 + (to.0 - before.0) / 6.0, from.1 + (to.1 - before.1) / 6.0);
-            let (bx, by) = (to.0 - (after.0 - from.0) / 6.0, to.1 - (after.1 - from.1) / 6.0);
-            path += &format!("C{ax:.1} {ay:.1} {bx:.1} {by:.1} {:.1} {:.1}", to.0, to.1);
+        for [_, (ax, ay), (bx, by), (x, y)] in bends(points) {
+            path += &format!("C{ax:.1} {ay:.1} {bx:.1} {by:.1} {x:.1} {y:.1}");
         }
         self.shapes += &format!("<path class=\"{class}\" d=\"{path}\"/>\n");
     }
 
     pub fn circle(&mut self, class: &str, (x, y): Point, radius: f64) {
+        self.taken.push(Rect::around((x, y), 2.0 * radius, 2.0 * radius));
         self.shapes +=
             &format!("<circle class=\"{class}\" cx=\"{x:.1}\" cy=\"{y:.1}\" r=\"{radius:.1}\"/>\n");
     }
 
     pub fn text(&mut self, class: &str, (x, y): Point, text: &str) {
+        self.taken.push(text_box(class, (x, y), text));
         self.shapes += &format!(
             "<text class=\"{class}\" x=\"{x:.1}\" y=\"{y:.1}\">{}</text>\n",
             escaped(text)
@@ -46,10 +77,12 @@ impl Svg {
     /// Puts the shapes of another picture on top.
     pub fn append(&mut self, other: Svg) {
         self.shapes += &other.shapes;
+        self.taken.extend(other.taken);
     }
 
     /// A cross, of two strokes.
     pub fn cross(&mut self, class: &str, (x, y): Point, size: f64) {
+        self.taken.push(Rect::around((x, y), 2.0 * size, 2.0 * size));
         self.line(class, (x - size, y - size), (x + size, y + size));
         self.line(class, (x - size, y + size), (x + size, y - size));
     }
@@ -76,19 +109,6 @@ impl Svg {
             self.shapes
         )
     }
-}
-
-/// The way from a point to another, of length 1.
-pub fn direction(from: Point, to: Point) -> Point {
-    let (dx, dy) = (to.0 - from.0, to.1 - from.1);
-    let length = dx.hypot(dy).max(1e-9);
-    (dx / length, dy / length)
-}
-
-/// The point that lies so far from the first on the way to the second.
-pub fn along(from: Point, to: Point, far: f64) -> Point {
-    let (dx, dy) = direction(from, to);
-    (from.0 + far * dx, from.1 + far * dy)
 }
 
 fn escaped(text: &str) -> String {

@@ -16,7 +16,7 @@ fn fates(text: &str) -> Vec<(u8, u8, u8, usize, Fate)> {
 }
 
 /// A journal of n sites in which most events are accepted, and some refused.
-fn wandering(n: u8, seed: u64) -> Vec<u8> {
+pub fn wandering(n: u8, seed: u64) -> Vec<u8> {
     let mut next = chance(seed);
     let mut run = [0; 138];
     fjadrimor::calls::run_fresh(n, &mut run);

@@ -2,8 +2,9 @@
 
 use super::label::Label;
 use super::place::{Item, Join, Placed, Rows};
-use super::svg::{block, escaped, text, text_width};
+use super::svg::{block, escaped, text};
 use super::Subject;
+use crate::letters::width;
 use crate::sheet::library::{Decision, Finding, Judgement};
 use crate::sheet::model::{Local, Mark, Sheet, Transition};
 use std::collections::BTreeMap;
@@ -34,7 +35,7 @@ pub fn diagram(subject: &Subject, site: u8) -> Diagram {
     let mut rows = Rows::default();
     for &local in &own {
         let caption = caption(sheet, judged, local);
-        let wide = caption.iter().map(|line| text_width(&line.0, CAPTION)).fold(0.0, f64::max);
+        let wide = caption.iter().map(|line| width(&line.0, CAPTION)).fold(0.0, f64::max);
         let half = half_width(sheet, local);
         let (right, lean) = (half + 6.0 + wide, leans[local.1 as usize]);
         let item = Item { left: half, right, height: 2.0 * RADIUS, lean };
@@ -148,7 +149,7 @@ impl Arrow {
 
 /// Half the width of a state: a circle, or longer where its name is.
 fn half_width(sheet: &Sheet, local: Local) -> f64 {
-    (text_width(&sheet.state(local).name, NAME) / 2.0 + 8.0).max(RADIUS)
+    (width(&sheet.state(local).name, NAME) / 2.0 + 8.0).max(RADIUS)
 }
 
 /// The point of a state's rim on the way from its middle to a point outside.

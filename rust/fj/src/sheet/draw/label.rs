@@ -1,8 +1,9 @@
 //! The label of an arrow: for each of its transitions what is read above a bar and what is written
 //! below it, as in Skeen's figures.
 
-use super::svg::{broken, line, text, text_width};
+use super::svg::{line, text};
 use super::Subject;
+use crate::letters::{lines, width};
 
 /// The labels of the transitions between two states, in columns.
 pub struct Label {
@@ -71,7 +72,7 @@ impl Part {
         let t = &subject.sheet.transitions[number];
         let list = |set| match &subject.sheet.names(set)[..] {
             [] => vec!["\u{2013}".to_string()],
-            names => broken(names.iter().copied(), SIZE, BREAK),
+            names => lines(names.iter().copied(), SIZE, BREAK),
         };
         let steps = subject.steps.get(number).cloned().unwrap_or_default();
         Part { above: list(t.reads), below: list(t.writes), votes: t.votes, steps }
@@ -79,8 +80,8 @@ impl Part {
 
     fn width(&self) -> f64 {
         let lines = self.above.iter().chain(&self.below).chain([&self.steps]);
-        let widest = lines.map(|line| text_width(line, SIZE)).fold(0.0, f64::max);
-        widest.max(if self.votes { text_width(VOTES, SIZE) } else { 24.0 })
+        let widest = lines.map(|line| width(line, SIZE)).fold(0.0, f64::max);
+        widest.max(if self.votes { width(VOTES, SIZE) } else { 24.0 })
     }
 
     fn height(&self) -> f64 {

@@ -9,8 +9,9 @@ use super::library::Judgement;
 use super::model::Sheet;
 use super::search::Search;
 use super::{explain, refusal, warnings};
+use crate::letters;
 use diagram::{diagram, Diagram};
-use svg::{broken, moved, text, text_width};
+use svg::{moved, text};
 
 const STYLE: &str = "\
 text { font-family: Helvetica, Arial, 'DejaVu Sans', sans-serif; fill: #222 }
@@ -70,9 +71,9 @@ pub fn svg(sheet: &Sheet, judged: &Result<Judgement, u8>) -> String {
         let search = Search::of(sheet);
         let ways = explain::ways(sheet, judgement, &search);
         subject.steps = explain::steps(sheet, &ways);
-        legend.extend(folded(&explain::legend(sheet, judgement, &ways), 9.5));
+        legend.extend(folded(&explain::legend(sheet, judgement, &ways), "legend"));
         for warning in warnings::warnings(sheet, judgement, &search) {
-            let lines = folded(&format!("Warning: {}", warning.text), 14.0);
+            let lines = folded(&format!("Warning: {}", warning.text), "warning");
             head.extend(lines.into_iter().map(|line| ("warning", line)));
         }
     }
@@ -80,8 +81,17 @@ pub fn svg(sheet: &Sheet, judged: &Result<Judgement, u8>) -> String {
 }
 
 /// A text in lines that can be read easily.
-fn folded(text: &str, size: f64) -> Vec<String> {
-    broken(text.split(' ').filter(|word| !word.is_empty()), size, READABLE)
+fn folded(text: &str, class: &str) -> Vec<String> {
+    letters::lines(text.split_whitespace(), size(class), READABLE)
+}
+
+/// The size of the letters above and below the diagrams, as the style has it.
+fn size(class: &str) -> f64 {
+    match class {
+        "title" => 18.0,
+        "legend" => 11.0,
+        _ => 13.0,
+    }
 }
 
 /// The whole drawing: the diagrams between the lines above and below them.
@@ -90,8 +100,8 @@ fn page(subject: &Subject, head: &[Line], legend: &[String]) -> String {
     let diagrams: Vec<Diagram> = sites.map(|site| diagram(subject, site)).collect();
     let top = MARGIN + 22.0 * head.len() as f64;
     let (panels, width, height) = panels(subject.sheet, &diagrams, top);
-    let texts = head.iter().map(|(_, line)| text_width(line, 14.0));
-    let notes = legend.iter().map(|line| text_width(line, 9.5));
+    let texts = head.iter().map(|(class, line)| letters::width(line, size(class)));
+    let notes = legend.iter().map(|line| letters::width(line, size("legend")));
     let width = texts.chain(notes).fold(width, f64::max) + 2.0 * MARGIN;
     let mut body = String::new();
     for (place, (class, line)) in head.iter().enumerate() {
@@ -156,7 +166,7 @@ fn panels(sheet: &Sheet, diagrams: &[Diagram], top: f64) -> (String, f64, f64) {
 }
 
 fn panel_width(diagram: &Diagram, name: &str) -> f64 {
-    diagram.width.max(text_width(name, 15.0)) + 2.0 * MARGIN
+    diagram.width.max(letters::width(name, 14.0)) + 2.0 * MARGIN
 }
 
 /// One diagram in its frame, below the site's name.

@@ -1,31 +1,5 @@
 //! The few elements of SVG that the drawings use.
 
-/// The width of a text, estimated on the wide side of the usual fonts without serifs.
-pub fn text_width(text: &str, size: f64) -> f64 {
-    let of = |c: char| match c {
-        'i' | 'j' | 'l' | '.' | ',' | ':' | ';' | '\'' | '|' | ' ' | '(' | ')' | '-' => 0.36,
-        'f' | 'r' | 't' => 0.42,
-        'm' | 'w' | 'M' | 'W' => 0.95,
-        'A'..='Z' => 0.72,
-        _ => 0.63,
-    };
-    text.chars().map(of).sum::<f64>() * size
-}
-
-/// Words in lines of about a width.
-pub fn broken<'a>(words: impl Iterator<Item = &'a str>, size: f64, width: f64) -> Vec<String> {
-    let mut lines: Vec<String> = Vec::new();
-    for word in words {
-        match lines.last_mut() {
-            Some(line) if text_width(line, size) + text_width(word, size) < width => {
-                *line += &format!(" {word}");
-            }
-            _ => lines.push(word.to_string()),
-        }
-    }
-    lines
-}
-
 /// A text with what SVG reserves written out.
 pub fn escaped(text: &str) -> String {
     text.replace('&', "&amp;").replace('<', "&lt;").replace('>', "&gt;")
