@@ -6,8 +6,8 @@ use super::search::{Global, Path, Search};
 use super::show;
 
 /// What a global state shows beside the state that a verdict names.
-#[derive(Clone, Copy, Debug, PartialEq, Eq)]
-pub enum Sight {
+#[derive(Clone, Copy)]
+enum Sight {
     Abort,
     Commit,
     Unvoted,
@@ -17,14 +17,14 @@ pub enum Sight {
 const SIGHTS: [Sight; 3] = [Sight::Abort, Sight::Commit, Sight::Unvoted];
 
 /// A shortest way to a sight.
-pub struct Way {
-    pub sight: Sight,
-    pub path: Path,
+struct Way {
+    sight: Sight,
+    path: Path,
 }
 
 impl Sight {
     /// Whether a global state shows this beside a local state.
-    pub fn shows(self, sheet: &Sheet, local: Local, global: &Global) -> bool {
+    fn shows(self, sheet: &Sheet, local: Local, global: &Global) -> bool {
         let shown = match self {
             Sight::Abort => global.elsewhere(sheet, local.0, Mark::Abort),
             Sight::Commit => global.elsewhere(sheet, local.0, Mark::Commit),
@@ -51,51 +51,57 @@ impl Sight {
     }
 }
 
-/// The ways that show why the verdict's state is blocked. There are none for a nonblocking sheet.
-pub fn ways(sheet: &Sheet, judgement: &Judgement, search: &Search) -> Vec<Way> {
-    let Some((site, state, _)) = judgement.witness else {
-        return Vec::new();
-    };
+/// The state that a blocking verdict names, and the ways that show why it is blocked.
+pub struct Explanation<'a> {
+    sheet: &'a Sheet,
+    blocked: Local,
+    ways: Vec<Way>,
+}
+
+/// The explanation of a blocking verdict; a nonblocking one needs none.
+pub fn explanation<'a>(
+    sheet: &'a Sheet,
+    judgement: &Judgement,
+    search: &Search,
+) -> Option<Explanation<'a>> {
+    let (site, state, _) = judgement.witness?;
+    let blocked = (site, state);
     let way = |sight: Sight| {
-        let path = search.shortest(|global| sight.shows(sheet, (site, state), global))?;
+        let path = search.shortest(|global| sight.shows(sheet, blocked, global))?;
         Some(Way { sight, path })
     };
-    SIGHTS.into_iter().filter_map(way).collect()
+    Some(Explanation { sheet, blocked, ways: SIGHTS.into_iter().filter_map(way).collect() })
 }
 
-/// For each transition its steps on the ways, as a drawing marks them: `a1 c1`.
-pub fn steps(sheet: &Sheet, ways: &[Way]) -> Vec<String> {
-    let mut steps = vec![Vec::new(); sheet.transitions.len()];
-    for way in ways {
-        for (place, &number) in (1..).zip(&way.path.steps) {
-            steps[number].push(format!("{}{place}", way.sight.letter()));
+impl Explanation<'_> {
+    /// The ways as text.
+    pub fn text(&self) -> String {
+        let blocked = self.sheet.called(self.blocked);
+        let mut text = "\nhow it comes to that, in the fewest transitions:\n".to_string();
+        for Way { sight, path } in &self.ways {
+            text += &format!("  {blocked} {}:\n{}", sight.words(), lines(self.sheet, path));
         }
+        text
     }
-    steps.iter().map(|steps| steps.join(" ")).collect()
-}
 
-/// What those marks mean; nothing where there are none.
-pub fn legend(sheet: &Sheet, judgement: &Judgement, ways: &[Way]) -> String {
-    let Some((site, state, _)) = judgement.witness else {
-        return String::new();
-    };
-    let meaning = |way: &Way| format!("{} ({})", way.sight.words(), way.sight.letter());
-    let meanings: Vec<String> = ways.iter().map(meaning).collect();
-    let blocked = sheet.called((site, state));
-    format!("Red steps are the fewest to {blocked} {}.", meanings.join(", "))
-}
-
-/// The ways as text.
-pub fn text(sheet: &Sheet, judgement: &Judgement, search: &Search) -> String {
-    let Some((site, state, _)) = judgement.witness else {
-        return String::new();
-    };
-    let blocked = sheet.called((site, state));
-    let mut text = "\nhow it comes to that, in the fewest transitions:\n".to_string();
-    for way in ways(sheet, judgement, search) {
-        text += &format!("  {blocked} {}:\n{}", way.sight.words(), lines(sheet, &way.path));
+    /// For each transition its steps on the ways, as a drawing marks them: `a1 c1`.
+    pub fn steps(&self) -> Vec<String> {
+        let mut steps = vec![Vec::new(); self.sheet.transitions.len()];
+        for Way { sight, path } in &self.ways {
+            for (place, &number) in (1..).zip(&path.steps) {
+                steps[number].push(format!("{}{place}", sight.letter()));
+            }
+        }
+        steps.iter().map(|steps| steps.join(" ")).collect()
     }
-    text
+
+    /// What those marks mean.
+    pub fn legend(&self) -> String {
+        let meaning = |way: &Way| format!("{} ({})", way.sight.words(), way.sight.letter());
+        let meanings: Vec<String> = self.ways.iter().map(meaning).collect();
+        let blocked = self.sheet.called(self.blocked);
+        format!("Red steps are the fewest to {blocked} {}.", meanings.join(", "))
+    }
 }
 
 /// The lines of a way: its transitions as a sheet has them, and the global state at its end.
@@ -109,7 +115,7 @@ pub fn lines(sheet: &Sheet, path: &Path) -> String {
     text + &format!("    {start}: {}\n", described(sheet, &path.end))
 }
 
-/// `1.2 a, 2.1 w; outstanding: abort2; not voted yes: site 1`
+/// `1.2 a, 2.1 w; outstanding: abort2; no yes yet from 1`
 fn described(sheet: &Sheet, global: &Global) -> String {
     let locals: Vec<String> =
         global.locals(sheet).into_iter().map(|local| sheet.called(local)).collect();

@@ -18,9 +18,12 @@ pub fn text(sheet: &Sheet, judgement: &Judgement) -> String {
     for site in 1..=sheet.sites.len() {
         text += &table(sheet, judgement, site as u8);
     }
-    text += &(verdict(sheet, judgement) + &blocked(sheet, judgement));
+    let (verdict, tolerance) = (verdict(sheet, judgement), judgement.tolerance);
+    text += &format!("\nverdict {verdict}\ntolerance {tolerance}\n");
+    text += &blocked(sheet, judgement);
     let search = Search::of(sheet);
-    text += &explain::text(sheet, judgement, &search);
+    let explained = explain::explanation(sheet, judgement, &search);
+    text += &explained.map_or(String::new(), |explained| explained.text());
     text + &warnings::text(sheet, judgement, &search)
 }
 
@@ -70,14 +73,14 @@ fn set(sheet: &Sheet, found: &Finding) -> Vec<String> {
     }
 }
 
-fn verdict(sheet: &Sheet, judgement: &Judgement) -> String {
-    let verdict = match judgement.witness {
+/// The verdict in words.
+pub fn verdict(sheet: &Sheet, judgement: &Judgement) -> String {
+    match judgement.witness {
         None => "nonblocking".to_string(),
         Some((site, state, condition)) => {
             format!("blocking at {} condition {condition}", sheet.called((site, state)))
         }
-    };
-    format!("\nverdict {verdict}\ntolerance {}\n", judgement.tolerance)
+    }
 }
 
 /// Why each blocked state is blocked.

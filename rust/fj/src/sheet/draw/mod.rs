@@ -8,7 +8,7 @@ mod svg;
 use super::library::Judgement;
 use super::model::Sheet;
 use super::search::Search;
-use super::{explain, refusal, warnings};
+use super::{explain, judge, refusal, warnings};
 use crate::letters;
 use diagram::{diagram, Diagram};
 use svg::{moved, text};
@@ -69,9 +69,10 @@ pub fn svg(sheet: &Sheet, judged: &Result<Judgement, u8>) -> String {
     let mut legend: Vec<String> = LEGEND.map(str::to_string).to_vec();
     if let Ok(judgement) = judged {
         let search = Search::of(sheet);
-        let ways = explain::ways(sheet, judgement, &search);
-        subject.steps = explain::steps(sheet, &ways);
-        legend.extend(folded(&explain::legend(sheet, judgement, &ways), "legend"));
+        if let Some(explained) = explain::explanation(sheet, judgement, &search) {
+            subject.steps = explained.steps();
+            legend.extend(folded(&explained.legend(), "legend"));
+        }
         for warning in warnings::warnings(sheet, judgement, &search) {
             let lines = folded(&format!("Warning: {}", warning.text), "warning");
             head.extend(lines.into_iter().map(|line| ("warning", line)));
@@ -128,12 +129,7 @@ fn head(sheet: &Sheet, judged: &Result<Judgement, u8>) -> Vec<Line> {
     let verdict = match judged {
         Err(ground) => refusal::text(*ground, Some(sheet)),
         Ok(judged) => {
-            let verdict = match judged.witness {
-                None => "nonblocking".to_string(),
-                Some((site, state, condition)) => {
-                    format!("blocking at {} condition {condition}", sheet.called((site, state)))
-                }
-            };
+            let verdict = judge::verdict(sheet, judged);
             format!("{verdict}; tolerance {}; {} global states", judged.tolerance, judged.states)
         }
     };
