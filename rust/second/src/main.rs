@@ -12,8 +12,8 @@ const USAGE: &str = "usage: second explore N [--wrong RULE] [--claim CLAIM]
        second rehearsal < JOURNAL
        second sheets < SHEET";
 
-/// Searches all runs of n sites by the rule and for the claims that the other arguments name: 01's own
-/// rule and every claim where they name none. What a wrong rule does is printed.
+/// Searches all runs of n sites by the rule and for the claims that the other arguments name: 01's
+/// own rule and every claim where they name none. What a wrong rule does is printed.
 fn explored(n: u8, arguments: &[&str]) -> Option<bool> {
     match *arguments {
         ["--wrong", name, ref rest @ ..] => {

@@ -10,8 +10,8 @@ pub type Event = (u8, Happening);
 /// The messages by their kinds, from 1.
 const MESSAGES: [&str; 8] = ["start", "yes", "no", "move-p", "move-w", "ack", "commit", "abort"];
 
-/// A journal of these events from fresh. What comes of each by a rule stands beside it as a comment;
-/// events in a row that are alike, with the same outcome, stand there once.
+/// A journal of these events from fresh. What comes of each by a rule stands beside it as a
+/// comment; events in a row that are alike, with the same outcome, stand there once.
 pub fn journal(n: u8, rule: Rule, events: &[Event]) -> String {
     let mut run = Run::fresh(n).expect("n is 2 to 8");
     let line = |(site, happening): &Event| {

@@ -14,8 +14,9 @@ fn step(site: u8, step: Step) -> Event {
     (site, Happening::Step(step))
 }
 
-/// All vote yes, and of site 1's Move-p only the one to site 3 leaves. Site 2 leads in w; site 3 in p,
-/// although site 2 runs. Site 4 answers both. Site 2 aborts on its answer, site 4 commits in the end.
+/// All vote yes, and of site 1's Move-p only the one to site 3 leaves. Site 2 leads in w; site 3 in
+/// p, although site 2 runs. Site 4 answers both. Site 2 aborts on its answer, site 4 commits in the
+/// end.
 fn two_leaders() -> Vec<Event> {
     let votes = [2, 3, 4].map(|site| [deliver(site, START, 1), deliver(1, YES, site)]);
     let two_lead = [
