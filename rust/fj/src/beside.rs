@@ -2,12 +2,12 @@
 //! below the last one how the run stands.
 
 use crate::grounds::sentence;
-use crate::notation::FULL;
+use crate::notation::why_bad;
 use crate::reasons::reason;
 use crate::rehearsal::{records, transcript, Line, Verdict};
 use crate::standing;
 use crate::words::words;
-use fjadrimor::{Event, Refusal, Run};
+use fjadrimor::{Event, Run};
 
 /// A journal's rehearsal.
 pub struct Rehearsal {
@@ -74,10 +74,7 @@ fn why(run: Option<&mut Run>, line: &Line, is_longer: bool) -> String {
     let happens = run.zip(line.fields.and_then(Event::of_fields));
     match (line.verdict, happens) {
         (Verdict::Refused(ground), Some((run, event))) => reason(run, event, ground),
-        (Verdict::Bad(ground), _) if is_longer && ground == Refusal::TooShort.number() => {
-            format!("{FULL}; no more is read")
-        }
-        (Verdict::Bad(ground), _) => format!("{}; no more is read", sentence(ground)),
+        (Verdict::Bad(ground), _) => why_bad(ground, is_longer),
         (_, happens) => {
             let _accepted = happens.map(|(run, event)| run.happens(event));
             String::new()

@@ -43,7 +43,7 @@ fn answer(command: &str, arguments: &Arguments, journal: &Journal) -> Result<Ans
     let rehearsal = Rehearsal::new(&journal.bytes, journal.is_longer)?;
     let output = match (command, &rehearsal.run) {
         ("assemble", _) => journal.bytes.clone(),
-        ("show", _) => show(&journal.bytes).into_bytes(),
+        ("show", _) => show(&journal.bytes, journal.is_longer).into_bytes(),
         ("rehearse", _) if arguments.has("--plain") => rehearsal.transcript.clone().into_bytes(),
         ("rehearse", _) => rehearsal.text().into_bytes(),
         // Without a run there is nothing to draw, and nothing can happen next.

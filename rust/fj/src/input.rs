@@ -73,9 +73,9 @@ fn is_control(byte: &u8) -> bool {
     byte.is_ascii_control() && !byte.is_ascii_whitespace()
 }
 
-/// Why a file was taken as bytes: the first byte that no text has.
-pub fn no_text(file: &[u8]) -> Option<String> {
+/// Why a file was taken as bytes: the first byte that no text has, with its line.
+pub fn no_text(file: &[u8]) -> Option<(usize, u8)> {
     let place = file.iter().position(is_control)?;
     let line = 1 + file[..place].iter().filter(|byte| **byte == b'\n').count();
-    Some(format!("line {line} has the byte {:02x}, which no text has", file[place]))
+    Some((line, file[place]))
 }

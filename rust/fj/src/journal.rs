@@ -62,7 +62,7 @@ impl Journal {
     pub fn of_start(&self, reason: &str) -> String {
         match self.text {
             Some(_) => self.of_byte(0, reason),
-            None => self.of_byte(0, &Taken::Journal.in_bytes(&self.bytes, reason)),
+            None => Taken::Journal.in_bytes(&self.bytes, reason).within(&self.file),
         }
     }
 }

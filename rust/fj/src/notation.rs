@@ -4,6 +4,7 @@ use crate::grounds::sentence;
 use crate::input::LIMIT;
 use crate::place::Error;
 use crate::words::{advice, fields, number, quoted, words, wrong_field, Fields};
+use fjadrimor::Refusal;
 
 /// The bytes of a record.
 const RECORD: usize = 9;
@@ -126,8 +127,14 @@ pub fn start(place: usize) -> usize {
     1 + RECORD * (place - 1)
 }
 
+/// Why a record is bad, in a journal of which there may be more bytes than are read.
+pub fn why_bad(ground: u8, is_longer: bool) -> String {
+    let is_cut = is_longer && ground == Refusal::TooShort.number();
+    format!("{}; no more is read", if is_cut { FULL } else { sentence(ground) })
+}
+
 /// A journal's bytes as text. From a bad record on, where nothing is read, its bytes are shown.
-pub fn show(journal: &[u8]) -> String {
+pub fn show(journal: &[u8], is_longer: bool) -> String {
     let Some(n) = journal.first() else {
         return "# no bytes: the number of sites is missing\n".to_string();
     };
@@ -140,7 +147,7 @@ pub fn show(journal: &[u8]) -> String {
         match record_at(journal, place) {
             Ok(fields) => text += &format!("{}\n", words(fields)),
             Err(ground) => {
-                text += &format!("# bad {ground}: {}; no more is read\n", sentence(ground));
+                text += &format!("# bad {ground}: {}\n", why_bad(ground, is_longer));
                 rest.chunks(RECORD).for_each(|bytes| text += &bytes_line(bytes));
                 break;
             }

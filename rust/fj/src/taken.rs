@@ -2,6 +2,7 @@
 
 use crate::input::no_text;
 use crate::notation::{record_at, statements};
+use crate::place::Error;
 use crate::sheet;
 
 /// What a file was taken for, in notation or in bytes.
@@ -39,12 +40,18 @@ impl Taken {
     }
 
     /// What is wrong with bytes, with why they were taken so and what else they look like.
-    pub fn in_bytes(self, bytes: &[u8], reason: &str) -> String {
-        let empty = if bytes.is_empty() { "an empty file, " } else { "" };
-        let why = no_text(bytes).map_or(String::new(), |why| format!(", since {why}"));
+    pub fn in_bytes(self, bytes: &[u8], reason: &str) -> Error {
+        let (line, why) = match no_text(bytes) {
+            Some((line, byte)) => {
+                (line, format!("{byte:02x} is a byte that no text has, so the file was "))
+            }
+            None if bytes.is_empty() => (0, "an empty file, ".to_string()),
+            None => (0, String::new()),
+        };
         let look =
             self.other(bytes).map_or(String::new(), |look| format!("; it looks like {look}"));
-        format!("{empty}taken as {} in bytes{why}: {reason}{look}", self.words())
+        let reason = format!("{why}taken as {} in bytes: {reason}{look}", self.words());
+        Error { line, reason }
     }
 
     /// What is wrong with a text, with what else it looks like. One that says nothing was taken for

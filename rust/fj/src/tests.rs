@@ -87,7 +87,7 @@ fn a_journal_is_shown_as_it_is_written() {
     let bytes = assemble(&text).unwrap();
     assert_eq!(bytes.len(), 1 + 9 * EVENTS.len());
     assert_eq!(bytes[..10], [3, 0, 7, 1, 1, 1, 0, 0, 1, 0]);
-    assert_eq!(show(&bytes), text);
+    assert_eq!(show(&bytes, false), text);
 }
 
 #[test]
@@ -99,7 +99,7 @@ fn comments_blanks_capitals_and_order_do_not_matter() {
     let canonical = "sites 2\nstop 1 during take over leaving 2 3\n\
                      stop 1 during conclude leaving none\n\
                      deliver 2 move-p from 1\ndeliver 2 move-p from 1\n";
-    assert_eq!(show(&bytes), canonical);
+    assert_eq!(show(&bytes, false), canonical);
     assert_eq!(assemble(canonical), Ok(bytes));
     assert_eq!(title(free), Some("A title"));
     assert_eq!(title("sites 2\n# later"), None);
@@ -117,7 +117,7 @@ fn examples() -> Vec<&'static str> {
 #[test]
 fn the_examples_in_the_help_are_understood() {
     let examples = examples();
-    let shown = show(&assemble(&examples.join("\n")).unwrap());
+    let shown = show(&assemble(&examples.join("\n")).unwrap(), false);
     assert_eq!(examples.iter().filter(|line| line.starts_with("stop ")).count(), 3);
     assert!(examples.contains(&"stop 1 during conclude"));
     assert!(shown.contains("\nstop 1 during conclude leaving none\n"), "{shown}");
@@ -128,7 +128,7 @@ fn what_the_run_will_refuse_is_kept() {
     for text in
         ["sites 0\n", "sites 255\nbegin 1 yes\n", "sites 2\nstop 8\nstop 8\nnotice 5 of 5\n"]
     {
-        assert_eq!(show(&assemble(text).unwrap()), text);
+        assert_eq!(show(&assemble(text).unwrap(), false), text);
     }
 }
 
@@ -145,7 +145,7 @@ fn damaged_bytes_are_kept() {
     ];
     for (damage, ground) in damages {
         let bytes = assemble(&format!("{good}{damage}")).unwrap();
-        let shown = show(&bytes);
+        let shown = show(&bytes, false);
         assert!(shown.starts_with(&format!("{good}# bad {ground}: ")), "{shown}");
         assert!(shown.ends_with(damage), "{shown}");
         assert_eq!(assemble(&shown), Ok(bytes));
@@ -155,7 +155,7 @@ fn damaged_bytes_are_kept() {
 #[test]
 fn bytes_that_are_a_good_record_are_shown_in_words() {
     let bytes = assemble("sites 2\nbytes 00 07 01\nbytes 05 01 00 00 00 00").unwrap();
-    assert_eq!(show(&bytes), "sites 2\nconclude 1\n");
+    assert_eq!(show(&bytes, false), "sites 2\nconclude 1\n");
 }
 
 #[test]
@@ -172,7 +172,7 @@ fn any_bytes_are_shown_and_assembled_again() {
                 }
             });
         }
-        let shown = show(&bytes);
+        let shown = show(&bytes, false);
         assert!(is_text(shown.as_bytes()));
         assert_eq!(assemble(&shown), Ok(bytes));
     }
@@ -192,10 +192,7 @@ fn text_and_bytes_are_told_apart() {
 
 #[test]
 fn the_byte_that_makes_it_no_text_is_named() {
-    assert_eq!(
-        no_text(b"sites 2\n\n# a\x1bb").unwrap(),
-        "line 3 has the byte 1b, which no text has"
-    );
+    assert_eq!(no_text(b"sites 2\n\n# a\x1bb"), Some((3, 0x1b)));
     assert_eq!(no_text("# M\u{fc}nchen\r\n\tsites 2".as_bytes()), None);
 }
 

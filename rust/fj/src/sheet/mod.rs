@@ -154,8 +154,7 @@ impl Input {
         if let Some(sheet) = &self.sheet {
             return refusal::told(ground, sheet, &self.file);
         }
-        let refusal = refusal::text(ground, None);
-        format!("{}: {}", self.file, Taken::Sheet.in_bytes(&self.bytes, &refusal))
+        Taken::Sheet.in_bytes(&self.bytes, &refusal::text(ground, None)).within(&self.file)
     }
 }
 

@@ -5,6 +5,9 @@ use crate::grounds::sentence;
 use crate::place::Error;
 use std::collections::BTreeSet;
 
+/// The most transitions of a sheet.
+const TRANSITIONS: usize = 64;
+
 /// Where a ground shows: the line of a transition in the notation, 0 where there is none, and what
 /// stands there.
 struct Spot {
@@ -43,17 +46,16 @@ fn spots(ground: u8, sheet: &Sheet) -> Vec<Spot> {
         let found = sheet.transitions.iter().position(holds);
         found.map(|number| described(sheet, number)).into_iter().collect()
     };
-    let whole = |words| vec![Spot { line: 0, words }];
     let mark = |t: &Transition, state| sheet.state((t.site, state)).mark;
     match ground {
-        23 => whole(counts(sheet)),
-        24 => whole(format!("{} transitions", sheet.transitions.len())),
+        23 => vec![Spot { line: 0, words: counts(sheet) }],
+        24 => vec![many(sheet)],
         26 => first(&|t| t.reads == 0),
         27 => read_twice(sheet),
         28 => first(&|t| mark(t, t.from) != Mark::Working && mark(t, t.from) != mark(t, t.to)),
-        29 => (1..=sheet.sites.len())
-            .find_map(|site| cycle(sheet, site as u8))
-            .map_or(Vec::new(), whole),
+        29 => {
+            (1..).zip(&sheet.sites).find_map(|(site, _)| cycle(sheet, site)).into_iter().collect()
+        }
         31 => clash(sheet).into_iter().collect(),
         _ => Vec::new(),
     }
@@ -81,6 +83,12 @@ fn counts(sheet: &Sheet) -> String {
     format!("{} sites with {} states", counts.len(), counts.join(", "))
 }
 
+/// How many transitions there are, and the first that is too many.
+fn many(sheet: &Sheet) -> Spot {
+    let line = sheet.transitions.get(TRANSITIONS).map_or(0, |t| t.line);
+    Spot { line, words: format!("{} transitions", sheet.transitions.len()) }
+}
+
 /// The first message that two sites read, and where.
 fn read_twice(sheet: &Sheet) -> Vec<Spot> {
     let reads = |m: usize, t: &Transition| t.reads >> m & 1 == 1;
@@ -93,8 +101,8 @@ fn read_twice(sheet: &Sheet) -> Vec<Spot> {
     found.into_iter().flatten().collect()
 }
 
-/// A cycle of a site as the states on it, where there is one.
-fn cycle(sheet: &Sheet, site: u8) -> Option<String> {
+/// A cycle of a site as the states on it, where there is one, with the transition that closes it.
+fn cycle(sheet: &Sheet, site: u8) -> Option<Spot> {
     let states = sheet.sites[usize::from(site) - 1].states.len() as u8;
     let goes = |from: u8, to: u8| {
         sheet.transitions.iter().any(|t| (t.site, t.from, t.to) == (site, from, to))
@@ -109,9 +117,11 @@ fn cycle(sheet: &Sheet, site: u8) -> Option<String> {
         let here = walk[walk.len() - 1];
         let next = *left.iter().find(|&&to| goes(here, to))?;
         if let Some(start) = walk.iter().position(|&state| state == next) {
+            let closes = |t: &&Transition| (t.site, t.from, t.to) == (site, here, next);
+            let line = sheet.transitions.iter().find(closes)?.line;
             let ring = walk[start..].iter().chain([&next]);
             let names: Vec<&str> = ring.map(|&s| &*sheet.state((site, s)).name).collect();
-            return Some(format!("site {site}: {}", names.join(" -> ")));
+            return Some(Spot { line, words: format!("site {site}: {}", names.join(" -> ")) });
         }
         walk.push(next);
     }

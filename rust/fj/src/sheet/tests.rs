@@ -92,11 +92,11 @@ fn a_refusal_shows_its_place() {
         ),
         (
             "state w working\n2: q -> w reads done\n2: w -> q reads done",
-            "two.sheet: refused 29: a site can come back to a state that it has left (site 2: q -> w -> q)",
+            "two.sheet:12: refused 29: a site can come back to a state that it has left (site 2: q -> w -> q)",
         ),
         (
             "messages more\n1: q -> c reads go writes more\n1: c -> c reads go",
-            "two.sheet: refused 29: a site can come back to a state that it has left (site 1: c -> c)",
+            "two.sheet:12: refused 29: a site can come back to a state that it has left (site 1: c -> c)",
         ),
         (
             "site 3",
@@ -106,6 +106,8 @@ fn a_refusal_shows_its_place() {
     for (more, text) in refusals {
         assert_eq!(refused(more), text);
     }
+    let many = "two.sheet:74: refused 24: the sheet has more or fewer bytes than its counts give, or over 64 transitions (66 transitions)";
+    assert_eq!(refused(&"1: q -> c reads go\n".repeat(66)), many);
 }
 
 #[test]

@@ -19,20 +19,20 @@ fn what_is_no_journal_is_named_with_what_it_was_taken_for() {
     let utf_16_marked = utf_16("\u{feff}sites 2\n", u16::to_le_bytes);
     let utf_16_bare = utf_16("sites 2\n", u16::to_be_bytes);
     let files: [(&[u8], &str); 9] = [
-        (ELF, ", since line 1 has the byte 7f, which no text has: refused 1: 127 is not a number of sites: 2 to 8; it looks like a program"),
-        (PNG, ", since line 2 has the byte 1a, which no text has: refused 1: 137 is not a number of sites: 2 to 8; it looks like a picture"),
-        (b"\xff\xd8\xff\xe0\0\x10JFIF", ", since line 1 has the byte 00, which no text has: refused 1: 255 is not a number of sites: 2 to 8; it looks like a picture"),
-        (b"\x1f\x8b\x08\0", ", since line 1 has the byte 1f, which no text has: refused 1: 31 is not a number of sites: 2 to 8; it looks like a compressed file"),
-        (&utf_16_marked, ", since line 1 has the byte 00, which no text has: refused 1: 255 is not a number of sites: 2 to 8; it looks like text in UTF-16, and fj reads UTF-8"),
-        (&utf_16_bare, ", since line 1 has the byte 00, which no text has: refused 1: 0 is not a number of sites: 2 to 8; it looks like text in UTF-16, and fj reads UTF-8"),
-        (b"\0\0\0\0\0\0\0\0\0\0", ", since line 1 has the byte 00, which no text has: refused 1: 0 is not a number of sites: 2 to 8"),
-        (b"sites 2\n\x1b[1mbegin 1 yes\n", ", since line 2 has the byte 1b, which no text has: refused 1: 115 is not a number of sites: 2 to 8"),
-        (b"\x02\x7fELF", ", since line 1 has the byte 02, which no text has: record 1: bad 11: the record's length is not 7; no more is read"),
+        (ELF, ":1: 7f is a byte that no text has, so the file was taken as a journal in bytes: refused 1: 127 is not a number of sites: 2 to 8; it looks like a program"),
+        (PNG, ":2: 1a is a byte that no text has, so the file was taken as a journal in bytes: refused 1: 137 is not a number of sites: 2 to 8; it looks like a picture"),
+        (b"\xff\xd8\xff\xe0\0\x10JFIF", ":1: 00 is a byte that no text has, so the file was taken as a journal in bytes: refused 1: 255 is not a number of sites: 2 to 8; it looks like a picture"),
+        (b"\x1f\x8b\x08\0", ":1: 1f is a byte that no text has, so the file was taken as a journal in bytes: refused 1: 31 is not a number of sites: 2 to 8; it looks like a compressed file"),
+        (&utf_16_marked, ":1: 00 is a byte that no text has, so the file was taken as a journal in bytes: refused 1: 255 is not a number of sites: 2 to 8; it looks like text in UTF-16, and fj reads UTF-8"),
+        (&utf_16_bare, ":1: 00 is a byte that no text has, so the file was taken as a journal in bytes: refused 1: 0 is not a number of sites: 2 to 8; it looks like text in UTF-16, and fj reads UTF-8"),
+        (b"\0\0\0\0\0\0\0\0\0\0", ":1: 00 is a byte that no text has, so the file was taken as a journal in bytes: refused 1: 0 is not a number of sites: 2 to 8"),
+        (b"sites 2\n\x1b[1mbegin 1 yes\n", ":2: 1b is a byte that no text has, so the file was taken as a journal in bytes: refused 1: 115 is not a number of sites: 2 to 8"),
+        (b"\x02\x7fELF", ":1: 02 is a byte that no text has, so the file was taken as a journal in bytes: record 1: bad 11: the record's length is not 7; no more is read"),
     ];
     for command in ["rehearse", "rehearse --plain", "show", "next", "chart", "assemble"] {
         for (file, why) in &files {
             let told = said(command, file);
-            assert_eq!(told, trouble(&format!(": taken as a journal in bytes{why}")), "{command}");
+            assert_eq!(told, trouble(why), "{command}");
         }
         let hint = "; taken as a journal in notation, but it looks like";
         let first = "the number of sites comes first, such as: sites 3";
@@ -82,9 +82,9 @@ fn what_is_no_sheet_is_named_with_what_it_was_taken_for() {
     for command in ["judge", "judge --plain", "sheet show", "sheet assemble", "sheet draw"] {
         for (file, look) in &files {
             let (status, wrong) = said(command, file);
-            let start = "fj: standard input: taken as a sheet in bytes, since line ";
-            assert!(status == Some(1) && wrong.starts_with(start), "{wrong}");
-            assert!(wrong.ends_with(&format!("which no text has: {size}{look}\n")), "{wrong}");
+            assert!(status == Some(1) && wrong.starts_with("fj: standard input:"), "{wrong}");
+            let taken = "is a byte that no text has, so the file was taken as a sheet in bytes";
+            assert!(wrong.ends_with(&format!(" {taken}: {size}{look}\n")), "{wrong}");
         }
         let empty = format!(": an empty file, taken as a sheet in bytes: {size}");
         assert_eq!(said(command, b""), trouble(&empty), "{command}");
@@ -166,6 +166,9 @@ fn a_file_without_end_does_no_harm() {
     let commands = ["rehearse", "next", "chart", "show", "assemble", "judge"];
     for words in commands.map(|word| vec![word, "/dev/zero"]) {
         let (status, _, wrong) = fj(&words, b"");
-        assert!(status == Some(1) && wrong.starts_with("fj: /dev/zero: "), "{words:?}: {wrong}");
+        assert!(
+            status == Some(1) && wrong.starts_with("fj: /dev/zero:1: 00 is a byte"),
+            "{words:?}: {wrong}"
+        );
     }
 }

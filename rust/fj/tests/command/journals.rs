@@ -76,6 +76,8 @@ fn the_limit_is_told_and_what_fits_is_rehearsed() {
         assert_eq!(told, trouble(&format!(": record 7282: {bad}")), "{command}");
     }
     assert_eq!(said("assemble", text.as_bytes()), trouble(&format!(":4: {FULL}")));
+    let (_, printed, _) = fj(&["show", "-"], &bytes);
+    assert!(printed.ends_with(&format!("\n# {bad}\nbytes 00 07 01 05 01 00\n")), "{printed}");
     let (_, printed, _) = fj(&["rehearse", "--plain", "-"], &bytes);
     assert!(printed.ends_with("\n7281 refused 5 qq\n7282 bad 10\nend 0 0\n"));
     let (_, printed, _) = fj(&["rehearse", "-"], &bytes);
