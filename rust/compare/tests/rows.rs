@@ -1,8 +1,8 @@
 //! Document 01's tables and examples, row by row, through the library and through the second
 //! program.
 
+use compare::inputs::drafts::product;
 use compare::inputs::figures::central;
-use compare::inputs::sheets::product;
 use compare::inputs::{faults, Random};
 use compare::journal::Journaling;
 use compare::run::{happen, Runs};
