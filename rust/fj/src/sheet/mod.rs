@@ -23,7 +23,8 @@ pub const USAGE: &str = "usage: fj judge FILE                     the report, wi
        fj sheet assemble FILE > SHEET    the bytes of a notation
        fj sheet show FILE                the notation of a sheet
        fj sheet draw FILE > SHEET.svg    each site's state diagram
-  FILE holds a sheet in the notation or in bytes; - is standard input.
+  FILE holds a sheet in the notation or in bytes; - is standard input. All its bytes count, where
+  the sheet program takes the first 65,536.
 ";
 
 /// A sheet as it was given: its bytes, and the sheet with names where the bytes have the form of

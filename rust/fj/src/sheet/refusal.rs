@@ -81,8 +81,8 @@ fn cycle(sheet: &Sheet, site: u8) -> Option<String> {
     }
 }
 
-/// A transition that writes what is outstanding already, found by walking through the local states
-/// and outstanding messages that are reachable.
+/// A transition that writes what is still outstanding after its reading, found by walking through
+/// the local states and outstanding messages that are reachable.
 fn clash(sheet: &Sheet) -> Option<String> {
     let first = (vec![0; sheet.sites.len()], sheet.first);
     let mut seen = BTreeSet::from([first.clone()]);
