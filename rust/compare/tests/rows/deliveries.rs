@@ -10,16 +10,16 @@ const FOLLOWS_2: Site = [5, 4, Q, 2, 0b00001, 0b00010, 0b00100, 0b10000];
 const FOLLOWS_4: Site = [5, 4, Q, 4, 0b00001, 0b00010, 0b00100, 0b10000];
 
 /// "From a sender below the leader followed: passed over, no change."
-const BELOW: [&str; 5] = ["passed q2", "passed w2", "passed p2", "passed a2", "passed c2"];
-const BELOW_A_LEADER: [&str; 5] =
-    ["passed q4", "passed w4 awaits 2", "passed p4 awaits 2", "passed a4", "passed c4"];
+const BELOW: &str = "passed q2 | passed w2 | passed p2 | passed a2 | passed c2";
+const BELOW_A_LEADER: &str =
+    "passed q4 | passed w4 awaits 2 | passed p4 awaits 2 | passed a4 | passed c4";
 
 #[test]
 fn move_p() {
     hold(&[
         (FOLLOWS_2, [DELIVER, 1, MOVE_P, 0], BELOW),
-        (FOLLOWS_2, [DELIVER, 2, MOVE_P, 0], ["6", "p2 Ack>2", "p2 Ack>2", "6", "c2 Ack>2"]),
-        (FOLLOWS_2, [DELIVER, 3, MOVE_P, 0], ["6", "p3 Ack>3", "p3 Ack>3", "6", "c3 Ack>3"]),
+        (FOLLOWS_2, [DELIVER, 2, MOVE_P, 0], "6 | p2 Ack>2 | p2 Ack>2 | 6 | c2 Ack>2"),
+        (FOLLOWS_2, [DELIVER, 3, MOVE_P, 0], "6 | p3 Ack>3 | p3 Ack>3 | 6 | c3 Ack>3"),
         (FOLLOWS_4, [DELIVER, 1, MOVE_P, 0], BELOW_A_LEADER),
         (FOLLOWS_4, [DELIVER, 3, MOVE_P, 0], BELOW_A_LEADER),
     ]);
@@ -27,8 +27,8 @@ fn move_p() {
 
 #[test]
 fn move_w() {
-    let from_2 = ["w2 Ack>2", "w2 Ack>2", "w2 Ack>2", "a2 Ack>2", "6"];
-    let from_3 = ["w3 Ack>3", "w3 Ack>3", "w3 Ack>3", "a3 Ack>3", "6"];
+    let from_2 = "w2 Ack>2 | w2 Ack>2 | w2 Ack>2 | a2 Ack>2 | 6";
+    let from_3 = "w3 Ack>3 | w3 Ack>3 | w3 Ack>3 | a3 Ack>3 | 6";
     hold(&[
         (FOLLOWS_2, [DELIVER, 1, MOVE_W, 0], BELOW),
         (FOLLOWS_2, [DELIVER, 2, MOVE_W, 0], from_2),
@@ -43,8 +43,8 @@ fn move_w() {
 fn commit() {
     hold(&[
         (FOLLOWS_2, [DELIVER, 1, COMMIT, 0], BELOW),
-        (FOLLOWS_2, [DELIVER, 2, COMMIT, 0], ["6", "6", "c2", "6", "passed c2"]),
-        (FOLLOWS_2, [DELIVER, 3, COMMIT, 0], ["6", "6", "c3", "6", "passed c3"]),
+        (FOLLOWS_2, [DELIVER, 2, COMMIT, 0], "6 | 6 | c2 | 6 | passed c2"),
+        (FOLLOWS_2, [DELIVER, 3, COMMIT, 0], "6 | 6 | c3 | 6 | passed c3"),
         (FOLLOWS_4, [DELIVER, 1, COMMIT, 0], BELOW_A_LEADER),
         (FOLLOWS_4, [DELIVER, 3, COMMIT, 0], BELOW_A_LEADER),
     ]);
@@ -55,8 +55,8 @@ fn commit() {
 fn abort() {
     hold(&[
         (FOLLOWS_2, [DELIVER, 1, ABORT, 0], BELOW),
-        (FOLLOWS_2, [DELIVER, 2, ABORT, 0], ["a2", "a2", "6", "passed a2", "6"]),
-        (FOLLOWS_2, [DELIVER, 3, ABORT, 0], ["a3", "a3", "6", "passed a3", "6"]),
+        (FOLLOWS_2, [DELIVER, 2, ABORT, 0], "a2 | a2 | 6 | passed a2 | 6"),
+        (FOLLOWS_2, [DELIVER, 3, ABORT, 0], "a3 | a3 | 6 | passed a3 | 6"),
         (FOLLOWS_4, [DELIVER, 1, ABORT, 0], BELOW_A_LEADER),
         (FOLLOWS_4, [DELIVER, 3, ABORT, 0], BELOW_A_LEADER),
     ]);
@@ -66,8 +66,8 @@ fn abort() {
 #[test]
 fn start() {
     let follows_1 = [5, 4, Q, 1, 0, 0b00010, 0b00100, 0b10000];
-    let yes = ["w1 Yes>1", "passed w1", "passed p1", "passed a1", "passed c1"];
-    let no = ["a1 No>1", "passed w1", "passed p1", "passed a1", "passed c1"];
+    let yes = "w1 Yes>1 | passed w1 | passed p1 | passed a1 | passed c1";
+    let no = "a1 No>1 | passed w1 | passed p1 | passed a1 | passed c1";
     hold(&[
         (follows_1, [DELIVER, 1, START, AYE], yes),
         (follows_1, [DELIVER, 1, START, NAY], no),
@@ -83,8 +83,8 @@ fn start() {
 #[test]
 fn yes_and_no() {
     let first = [4, 1, Q, 1, 0, 0b0010, 0, 0b1000];
-    let yes = ["passed q1", "w1 yes=2,3 awaits 1", "passed p1 awaits 2", "passed a1", "passed c1"];
-    let no = ["passed q1", "w1 no=3 awaits 1", "passed p1 awaits 2", "passed a1", "passed c1"];
+    let yes = "passed q1 | w1 yes=2,3 awaits 1 | passed p1 awaits 2 | passed a1 | passed c1";
+    let no = "passed q1 | w1 no=3 awaits 1 | passed p1 awaits 2 | passed a1 | passed c1";
     hold(&[(first, [DELIVER, 3, YES, 0], yes), (first, [DELIVER, 3, NO, 0], no)]);
 }
 
@@ -92,11 +92,10 @@ fn yes_and_no() {
 /// at site 3 that leads, and at site 3 that follows 1 and 2.
 #[test]
 fn ack() {
-    let at_1 = ["passed q1", "passed w1 awaits 4", "p1 acked=5 awaits 3", "passed a1", "passed c1"];
-    let at_3 =
-        ["passed q3", "w3 acked=5 awaits 3", "p3 acked=5 awaits 3", "passed a3", "passed c3"];
-    let under_1 = ["passed q1", "passed w1", "passed p1", "passed a1", "passed c1"];
-    let under_2 = ["passed q2", "passed w2", "passed p2", "passed a2", "passed c2"];
+    let at_1 = "passed q1 | passed w1 awaits 4 | p1 acked=5 awaits 3 | passed a1 | passed c1";
+    let at_3 = "passed q3 | w3 acked=5 awaits 3 | p3 acked=5 awaits 3 | passed a3 | passed c3";
+    let under_1 = "passed q1 | passed w1 | passed p1 | passed a1 | passed c1";
+    let under_2 = "passed q2 | passed w2 | passed p2 | passed a2 | passed c2";
     hold(&[
         ([5, 1, Q, 1, 0, 0, 0, 0], [DELIVER, 5, ACK, 0], at_1),
         ([5, 3, Q, 3, 0, 0, 0, 0], [DELIVER, 5, ACK, 0], at_3),
@@ -128,13 +127,13 @@ fn heard_again() {
 #[test]
 fn replies_to_a_known_stopped_site() {
     let site = [3, 3, Q, 1, 0b011, 0, 0, 0];
-    let yes = ["w1 Yes>1", "passed w1", "passed p1", "passed a1", "passed c1"];
-    let no = ["a1 No>1", "passed w1", "passed p1", "passed a1", "passed c1"];
+    let yes = "w1 Yes>1 | passed w1 | passed p1 | passed a1 | passed c1";
+    let no = "a1 No>1 | passed w1 | passed p1 | passed a1 | passed c1";
     hold(&[
         (site, [DELIVER, 1, START, AYE], yes),
         (site, [DELIVER, 1, START, NAY], no),
-        (site, [DELIVER, 2, MOVE_P, 0], ["6", "p2 Ack>2", "p2 Ack>2", "6", "c2 Ack>2"]),
-        (site, [DELIVER, 2, MOVE_W, 0], ["w2 Ack>2", "w2 Ack>2", "w2 Ack>2", "a2 Ack>2", "6"]),
+        (site, [DELIVER, 2, MOVE_P, 0], "6 | p2 Ack>2 | p2 Ack>2 | 6 | c2 Ack>2"),
+        (site, [DELIVER, 2, MOVE_W, 0], "w2 Ack>2 | w2 Ack>2 | w2 Ack>2 | a2 Ack>2 | 6"),
     ]);
 }
 

@@ -2,10 +2,11 @@
 
 use super::words::*;
 use compare::inputs::pattern;
+use compare::journal::Journaling;
 
-/// What the reader finds at a place, with six bytes of room for the fields: they are left as they
-/// were where it refuses.
-fn read(program: compare::journal::Journaling, journal: &[u8], at: usize) -> (u8, Vec<u8>) {
+/// What the reader answers, and the six fields. Where it refuses, it leaves them as they were; two
+/// more bytes of room it leaves always.
+fn read(program: Journaling, journal: &[u8], at: usize) -> (u8, Vec<u8>) {
     let mut fields = pattern(8);
     let ground = (program.read)(journal, at, &mut fields);
     assert_eq!(fields[6..], pattern(8)[6..]);
@@ -101,15 +102,17 @@ fn places_in_a_journal() {
 }
 
 /// The lowest and the highest number that a field may have.
-const ZERO: (u8, u8) = (0, 0);
-const SITE: (u8, u8) = (1, 8);
-const VOTE: (u8, u8) = (1, 2);
-const ANY: (u8, u8) = (0, 255);
+type Range = (u8, u8);
+
+const ZERO: Range = (0, 0);
+const SITE: Range = (1, 8);
+const VOTE: Range = (1, 2);
+const ANY: Range = (0, 255);
 
 /// "S: acting site, 1..8. O: sender or noticed site, 1..8, else 0. M: message 1..8 in a delivery, else
 /// 0. V: 1 yes, 2 no at begin and delivery of Start, else 0. X: any set for 17 to 21, else 0." The
 /// fields K S O M V X of a record, and what each but K may be while the others stay.
-const FIELDS: [([u8; 6], [(u8, u8); 5]); 13] = [
+const FIELDS: [([u8; 6], [Range; 5]); 13] = [
     ([BEGIN, 1, 0, 0, AYE, 0], [SITE, ZERO, ZERO, VOTE, ZERO]),
     ([DELIVER, 2, 1, START, NAY, 0], [SITE, SITE, (1, 1), VOTE, ZERO]),
     ([DELIVER, 1, 2, YES, 0, 0], [SITE, SITE, (2, 8), ZERO, ZERO]),
@@ -126,7 +129,7 @@ const FIELDS: [([u8; 6], [(u8, u8); 5]); 13] = [
 ];
 
 /// Reads and writes a record in which one field has each of its 256 values in turn.
-fn hold(fields: [u8; 6], ranges: [(u8, u8); 5]) {
+fn hold(fields: [u8; 6], ranges: [Range; 5]) {
     for (place, (lowest, highest)) in (1..).zip(ranges) {
         for (program, value) in each(JOURNALS, &(0..=255).collect::<Vec<u8>>()) {
             let mut fields = fields;
@@ -167,7 +170,7 @@ fn kinds_of_record() {
 
 /// What the writer answers, and what it leaves of a room of so many bytes.
 fn write(
-    program: compare::journal::Journaling,
+    program: Journaling,
     [k, s, o, m, v, x]: [u8; 6],
     length: usize,
     at: usize,

@@ -177,17 +177,57 @@ fn hold(rows: &[(u8, Run, [u8; 6])]) {
     }
 }
 
-/// The grounds of the call, which come before those of the event: 15, 1 (no run), 13, 14, and then 1
-/// (not sound) to 6. Each alone, then every two that one call can have. The last number is the room
-/// for the answer, of which an event needs three bytes.
+/// A call with so many bytes of room for the answer, of which an event needs three. A refused one
+/// leaves the run, and an answer of outcome 2 and zeros, but after 15 none at all.
+fn call(ground: u8, run: &Run, fields: [u8; 6], room: usize) {
+    let answer = if ground == 15 { pattern(room) } else { vec![2, 0, 0] };
+    for program in RUNS {
+        let found = compare::run::happen(program, &run.0, fields, room);
+        let expected = (ground, run.0.clone(), answer.clone());
+        assert_eq!(found, expected, "{fields:?} {room} in {run:?}");
+    }
+}
+
+/// A run without its last byte, one with a byte more, and one with a state above 4 at place 8: these
+/// bytes are no run.
+fn no_runs(run: &Run) -> [Run; 3] {
+    let short = Run(run.0[..137].to_vec());
+    let long = Run([&run.0[..], &[0]].concat());
+    [short, long, run.clone().with(place(8) + 2, 5)]
+}
+
+/// The grounds of the call come before those of the event: 15, 1 (no run), 13, 14, then 1 (not sound)
+/// to 6. Each alone, and every two that one call can have.
 #[test]
-fn order_of_the_grounds() {
-    let short = Run(run(3).0[..137].to_vec());
-    let long = Run([run(3).0, vec![0]].concat());
-    let no_state = run(3).with(place(8) + 2, 5);
+fn grounds_of_the_call() {
     let good = [STOP, 2, 0, 0, 0, 0];
     let unknown = [7, 2, 0, 0, 0, 0];
     let no_vote = [BEGIN, 1, 0, 0, 0, 0];
+    for fields in [good, unknown, no_vote] {
+        call(15, &run(3), fields, 2);
+        call(15, &run(3), fields, 0);
+        call(15, &unsound(run(3)), fields, 2);
+        no_runs(&run(3)).iter().for_each(|bytes| call(15, bytes, fields, 2));
+        no_runs(&run(3)).iter().for_each(|bytes| call(1, bytes, fields, 3));
+    }
+    call(13, &run(3), unknown, 3);
+    call(14, &run(3), no_vote, 3);
+    call(13, &run(3), [7, 2, 0, 0, 3, 0], 3);
+    call(13, &run(3), [0, 0, 9, 9, 9, 9], 3);
+    call(13, &unsound(run(3)), unknown, 3);
+    call(13, &run(3), [16, 4, 0, 0, 0, 0], 3);
+    call(13, &without_3(), [22, 3, 0, 0, 0, 0], 3);
+    call(14, &unsound(run(3)), no_vote, 3);
+    call(14, &run(3), [STOP, 4, 1, 0, 0, 0], 3);
+    call(14, &without_3(), [STOP, 3, 0, 0, 0, 1], 3);
+    call(14, &run(3), [DELIVER, 2, 1, START, 0, 0], 3);
+    call(14, &run(3), [BEGIN, 2, 0, 0, 3, 0], 3);
+    call(14, &run(3).sent(MOVE_P, 1, 0b010), [DELIVER, 2, 1, MOVE_P, AYE, 0], 3);
+}
+
+/// 15 and both forms of 1 with each of the event's other grounds.
+#[test]
+fn grounds_of_the_call_and_of_the_event() {
     let events = [
         (2, run(3), [STOP, 4, 0, 0, 0, 0]),
         (3, without_3(), [STOP, 3, 0, 0, 0, 0]),
@@ -195,47 +235,11 @@ fn order_of_the_grounds() {
         (5, run(3), [BEGIN, 2, 0, 0, AYE, 0]),
         (6, run(3).sent(MOVE_P, 1, 0b010), [DELIVER, 2, 1, MOVE_P, 0, 0]),
     ];
-    let mut rows = vec![
-        (15, run(3), good, 2),
-        (15, run(3), good, 0),
-        (1, short.clone(), good, 3),
-        (1, long, good, 3),
-        (1, no_state.clone(), good, 3),
-        (13, run(3), unknown, 3),
-        (14, run(3), no_vote, 3),
-        (15, short.clone(), good, 2),
-        (15, no_state.clone(), good, 2),
-        (15, run(3), unknown, 2),
-        (15, run(3), no_vote, 2),
-        (15, unsound(run(3)), good, 2),
-        (1, short.clone(), unknown, 3),
-        (1, short, no_vote, 3),
-        (1, no_state.clone(), unknown, 3),
-        (1, no_state.clone(), no_vote, 3),
-        (1, unsound(no_state.clone()), good, 3),
-        (13, run(3), [7, 2, 0, 0, 3, 0], 3),
-        (13, run(3), [0, 0, 9, 9, 9, 9], 3),
-        (13, unsound(run(3)), unknown, 3),
-        (13, run(3), [16, 4, 0, 0, 0, 0], 3),
-        (13, without_3(), [22, 3, 0, 0, 0, 0], 3),
-        (14, unsound(run(3)), no_vote, 3),
-        (14, run(3), [STOP, 4, 1, 0, 0, 0], 3),
-        (14, without_3(), [STOP, 3, 0, 0, 0, 1], 3),
-        (14, run(3), [DELIVER, 2, 1, START, 0, 0], 3),
-        (14, run(3), [BEGIN, 2, 0, 0, 3, 0], 3),
-        (14, run(3).sent(MOVE_P, 1, 0b010), [DELIVER, 2, 1, MOVE_P, AYE, 0], 3),
-    ];
     for (ground, run, fields) in events {
-        rows.push((15, run.clone(), fields, 2));
-        rows.push((1, Run(run.0[..137].to_vec()), fields, 3));
-        rows.push((1, run.clone().with(place(8) + 2, 5), fields, 3));
-        rows.push((1, unsound(run.clone()), fields, 3));
-        rows.push((ground, run, fields, 3));
-    }
-    for (program, (ground, run, fields, room)) in each(RUNS, &rows) {
-        let answer = if *ground == 15 { pattern(*room) } else { vec![2, 0, 0] };
-        let found = compare::run::happen(program, &run.0, *fields, *room);
-        assert_eq!(found, (*ground, run.0.clone(), answer), "{fields:?} {room} in {run:?}");
+        call(ground, &run, fields, 3);
+        call(15, &run, fields, 2);
+        no_runs(&run).iter().for_each(|bytes| call(1, bytes, fields, 3));
+        call(1, &unsound(run), fields, 3);
     }
 }
 

@@ -6,7 +6,8 @@ use compare::inputs::drafts::{product, Draft, Move};
 use compare::sheet::Judging;
 
 /// The judge's answer to these bytes. Refused, "all else zero: 20 to 29 leave the words; 30 and 31 set
-/// the first 4,096 to zero"; later words stay always.
+/// the first 4,096 to zero"; later words stay always. The report prints "`refused N` only", and leaves
+/// the words as the judge does.
 fn judged(program: Judging, bytes: &[u8]) -> u8 {
     let (mut words, mut out) = (vec![5; 4098], vec![9; 208]);
     let ground = (program.judge)(bytes, &mut words, &mut out);
@@ -17,6 +18,11 @@ fn judged(program: Judging, bytes: &[u8]) -> u8 {
         _ => assert!(words[..4096].iter().all(|&word| word == 0)),
     }
     assert!(ground == 0 || out[..206].iter().all(|&byte| byte == 0));
+    let (mut again, mut text) = (vec![5; 4098], vec![9; 3722]);
+    let length = (program.report)(bytes, &mut again, &mut text);
+    let refused = format!("refused {ground}\n");
+    assert!(ground == 0 || text[..length] == *refused.as_bytes());
+    assert_eq!(again, words);
     ground
 }
 
@@ -46,20 +52,17 @@ fn and(more: Move) -> Draft {
 }
 
 /// "20: fewer than 4,096 words lent"; in C 15 first, for fewer than 206 bytes of room, and then
-/// nothing is touched.
+/// nothing is touched. Both come before whatever the bytes show, 21 and 22 here.
 #[test]
 fn words_and_room() {
-    let rows = [(0, 4096, 206), (20, 4095, 206), (20, 0, 206), (15, 4096, 205), (15, 4095, 205)];
+    let rows = [(20, 4095, 206), (20, 0, 206), (15, 4096, 205), (15, 4095, 205), (15, 0, 0)];
+    let second_version = but(|sheet| sheet.version = 2);
     for (program, (ground, lent, room)) in each(JUDGES, &rows) {
-        for sheet in [small(), but(|sheet| sheet.version = 2)] {
+        for bytes in [small().bytes(), vec![], vec![0], second_version.bytes()] {
             let (mut words, mut out) = (vec![5; *lent], vec![9; *room]);
-            let found = (program.judge)(&sheet.bytes(), &mut words, &mut out);
-            let good = *ground == 0 && sheet.version == 2;
-            assert_eq!(found, if good { 22 } else { *ground });
-            assert!(*ground == 0 || words.iter().all(|&word| word == 5));
-            assert!(
-                *ground == 0 || out.iter().all(|&byte| byte == if room < &206 { 9 } else { 0 })
-            );
+            assert_eq!((program.judge)(&bytes, &mut words, &mut out), *ground, "{bytes:?}");
+            let left = if *ground == 15 { 9 } else { 0 };
+            assert_eq!((words, out), (vec![5; *lent], vec![left; *room]));
         }
     }
 }
@@ -223,12 +226,22 @@ fn cycles() {
 /// "30: more than 4,096 reachable states": that many, and one more.
 #[test]
 fn reachable_states() {
+    let full = product(&[8, 8, 8, 8], false);
     for program in JUDGES {
-        let full = report(program, &product(&[8, 8, 8, 8], false).bytes());
-        assert!(full.starts_with("sheet 4 sites 4096 states\n"));
-        assert_eq!(report(program, &product(&[8, 8, 8, 8], true).bytes()), "refused 30\n");
+        assert!(report(program, &full.bytes()).starts_with("sheet 4 sites 4096 states\n"));
     }
-    hold(&[(0, product(&[8, 8, 8, 8], false)), (30, product(&[8, 8, 8, 8], true))]);
+    hold(&[(0, full), (30, product(&[8, 8, 8, 8], true))]);
+}
+
+/// What a transition that gives 31 leads to is reachable like any other, and makes the states here
+/// too many.
+#[test]
+fn reachable_by_a_clash() {
+    let mut sheet = largest();
+    sheet.first |= 1 << 31;
+    hold(&[(0, sheet.clone())]);
+    sheet.moves.push(go(1, 6, 7, 1, &[6], &[31]));
+    hold(&[(30, sheet)]);
 }
 
 /// "31: in a reachable state a possible transition writes a message still outstanding after its
@@ -261,11 +274,31 @@ fn clashes() {
     ]);
 }
 
+/// "Both programs take only the first 65,536 bytes": of a sheet of 65,537, the longest that L can tell,
+/// the calls see the version, and the program misses a byte.
+#[test]
+fn a_sheet_over_the_limit() {
+    let mut bytes = vec![2; 65_537];
+    bytes[..2].fill(255);
+    for program in JUDGES {
+        assert_eq!(judged(program, &bytes), 22);
+    }
+    assert_eq!(second::report::sheets(&bytes), "refused 21\n");
+}
+
+/// The largest sheet: four sites that each go through eight states by messages of their own.
+fn largest() -> Draft {
+    let site = |site: u8| {
+        (0..7)
+            .map(move |from| go(site, from, from + 1, 0, &[u32::from(7 * (site - 1) + from)], &[]))
+    };
+    Draft::new(vec![vec![WORKING; 8]; 4], (1 << 28) - 1, (1..=4).flat_map(site).collect())
+}
+
 /// A change that gives a sheet a ground.
 type Fault = fn(&mut Draft);
 
-/// One fault for each ground of the largest sheet, four sites that each go through eight states by
-/// messages of their own. No fault hides or mends another.
+/// One fault of the largest sheet for each ground. None hides or mends another.
 const FAULTS: [(u8, Fault); 11] = [
     (21, |sheet| sheet.excess = -1),
     (22, |sheet| sheet.version = 2),
@@ -285,14 +318,6 @@ const FAULTS: [(u8, Fault); 11] = [
         sheet.moves.insert(0, go(2, 0, 1, 0, &[7], &[31]));
     }),
 ];
-
-fn largest() -> Draft {
-    let site = |site: u8| {
-        (0..7)
-            .map(move |from| go(site, from, from + 1, 0, &[u32::from(7 * (site - 1) + from)], &[]))
-    };
-    Draft::new(vec![vec![WORKING; 8]; 4], (1 << 28) - 1, (1..=4).flat_map(site).collect())
-}
 
 /// "Order: ascending within each group": of every two grounds the lower is given, and 20 before all.
 #[test]

@@ -12,7 +12,9 @@ fn rows_1_and_2() {
     }
 }
 
-/// The record, the step, and the ground with the record and the answer afterwards.
+/// The number of a row, its record, its step, and the ground with the record and the answer afterwards.
+type Row = (u8, Site, [u8; 4], (u8, Site, [u8; 5]));
+
 #[test]
 fn rows_3_to_10() {
     let [in_q, in_w] = [Q, W].map(|state| [3, 2, state, 1, 0, 0, 0, 0]);
@@ -21,7 +23,7 @@ fn rows_3_to_10() {
     let (unasked, gone) = ([3, 2, Q, 1, 1, 0, 0, 0], [3, 2, A, 2, 1, 0, 0, 0]);
     let (last, leads) = ([2, 2, P, 1, 1, 0, 0, 0], [2, 2, P, 2, 1, 0, 0, 0]);
     let posted = [2, 2, C, 2, 1, 0, 0, 0];
-    let rows: [(u8, Site, [u8; 4], (u8, Site, [u8; 5])); 9] = [
+    let rows: [Row; 9] = [
         (3, first, [BEGIN, 0, 0, AYE], (0, begun, [0, START, 0b11111110, 7, 7])),
         (4, in_q, [BEGIN, 0, 0, AYE], (5, in_q, [2, 0, 0, 0, 0])),
         (5, in_q, [DELIVER, 1, START, AYE], (0, in_w, [0, YES, 0b1, 1, 0])),
