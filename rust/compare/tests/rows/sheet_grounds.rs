@@ -274,16 +274,21 @@ fn clashes() {
     ]);
 }
 
-/// "Both programs take only the first 65,536 bytes": of a sheet of 65,537, the longest that L can tell,
-/// the calls see the version, and the program misses a byte.
+/// "Both programs take only the first 65,536 bytes": a sheet of that length they see whole, with its
+/// wrong version. Of one more byte, the most that L can tell, the program misses the last; the calls
+/// take it.
 #[test]
-fn a_sheet_over_the_limit() {
-    let mut bytes = vec![2; 65_537];
-    bytes[..2].fill(255);
-    for program in JUDGES {
-        assert_eq!(judged(program, &bytes), 22);
+fn sheets_about_the_limit() {
+    let second_version = |length: usize| {
+        let mut bytes = vec![2; length];
+        bytes[..2].copy_from_slice(&[255, (length - 2 - 255 * 256) as u8]);
+        bytes
+    };
+    for (program, length) in each(JUDGES, &[65_536, 65_537]) {
+        assert_eq!(judged(program, &second_version(*length)), 22);
     }
-    assert_eq!(second::report::sheets(&bytes), "refused 21\n");
+    assert_eq!(second::report::sheets(&second_version(65_536)), "refused 22\n");
+    assert_eq!(second::report::sheets(&second_version(65_537)), "refused 21\n");
 }
 
 /// The largest sheet: four sites that each go through eight states by messages of their own.
