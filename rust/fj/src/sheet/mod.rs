@@ -29,6 +29,7 @@ pub const USAGE: &str = "usage: fj judge FILE                     the report, wi
        fj sheet show FILE                the notation of a sheet
        fj sheet draw FILE > SHEET.svg    each site's state diagram
   FILE holds a sheet in the notation or in bytes; - is standard input, and -- ends the options.
+  All its bytes count, where the sheet program takes the first 65,536.
   Exit status: 0 done; 1 where the sheet is refused or cannot be read; 2 bad usage.
 ";
 

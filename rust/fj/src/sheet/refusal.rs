@@ -127,8 +127,8 @@ fn cycle(sheet: &Sheet, site: u8) -> Option<Spot> {
     }
 }
 
-/// A transition that writes what is outstanding already, found by walking through the local states
-/// and outstanding messages that are reachable.
+/// A transition that writes what is still outstanding after its reading, found by walking through
+/// the local states and outstanding messages that are reachable.
 fn clash(sheet: &Sheet) -> Option<Spot> {
     let first = (vec![0; sheet.sites.len()], sheet.first);
     let mut seen = BTreeSet::from([first.clone()]);

@@ -92,11 +92,11 @@ fn a_refusal_shows_its_place() {
         ),
         (
             "state w working\n2: q -> w reads done\n2: w -> q reads done",
-            "two.sheet:12: refused 29: a site can come back to a state that it has left (site 2: q -> w -> q)",
+            "two.sheet:12: refused 29: a site's diagram has a cycle, whatever the messages allow (site 2: q -> w -> q)",
         ),
         (
             "messages more\n1: q -> c reads go writes more\n1: c -> c reads go",
-            "two.sheet:12: refused 29: a site can come back to a state that it has left (site 1: c -> c)",
+            "two.sheet:12: refused 29: a site's diagram has a cycle, whatever the messages allow (site 1: c -> c)",
         ),
         (
             "site 3",
@@ -168,8 +168,7 @@ fn a_clash_shows_the_message_and_the_transition() {
     let text = small("").replace("first go", "first go done") + "1: q -> c reads go writes done";
     let sheet = notation::read(&text).expect("the notation is good");
     assert_eq!(library::judge(&sheet.bytes()).err(), Some(31));
-    let refusal =
-        "refused 31: a message can be written while it is still outstanding (done at 1: q -> c)";
+    let refusal = "refused 31: a transition can write a message that is still outstanding after its reading (done at 1: q -> c)";
     assert_eq!(refusal::text(31, Some(&sheet)), refusal);
     assert_eq!(refusal::told(31, &sheet, "two.sheet"), format!("two.sheet:10: {refusal}"));
 }
