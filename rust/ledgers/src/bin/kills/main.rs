@@ -27,7 +27,7 @@ const USAGE: &str = "usage: kills [CLOSES [SEED]]";
 const LIMIT: Duration = Duration::from_secs(50);
 
 /// The number of closes at a time.
-const AT_A_TIME: usize = 3;
+const AT_A_TIME: usize = 4;
 
 /// A folder for registers, in memory where there is one.
 fn workplace() -> PathBuf {
