@@ -22,13 +22,11 @@
 //! # How this is a run of the rules
 //!
 //! What is proved is proved of the rules' runs, so each thing that a process does must be one of
-//! their events.
+//! their events. What goes wrong otherwise is in docs/EMBEDDING.md, by search: the program `astray`.
 //!
 //! - **A step** is taken by `Ledger::takes`. The library computes it, its messages leave, and the
 //!   record is saved after them. A ledger that is killed on the way has sent none, some or all of
 //!   the messages and has the record of before on its disk: that is the rules' stop inside a step.
-//!   Saved first, a killed ledger would have taken its step with the messages lost. No event of the
-//!   rules does that, and nothing is proved of it.
 //! - **A run begins** when all ledgers have met ([`meeting`]), in whatever order they were started.
 //!   Before that a ledger has done nothing and saved nothing, and may be started again.
 //! - **A stop** is for ever. A ledger that finds a record in its folder has met the others, and does
@@ -47,4 +45,5 @@ pub mod disk;
 pub mod ledger;
 pub mod meeting;
 pub mod mesh;
+pub mod random;
 pub mod register;

@@ -1,8 +1,9 @@
 //! One close by ledger processes, some of which are killed.
 
-use crate::plan::{Plan, Random, READY};
+use crate::plan::{Plan, READY};
 use fjadrimor::Site;
 use ledgers::disk::{Disk, Entry, Standing};
+use ledgers::random::Random;
 use ledgers::register::Register;
 use std::io::{self, BufRead, BufReader, Write};
 use std::path::Path;

@@ -11,7 +11,8 @@ mod plan;
 mod replay;
 mod tally;
 
-use plan::{Plan, Random};
+use ledgers::random::Random;
+use plan::Plan;
 use std::io;
 use std::path::PathBuf;
 use std::process::ExitCode;
