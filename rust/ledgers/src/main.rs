@@ -34,6 +34,7 @@ fn operator(inbox: &Sender<News>, go: &Sender<()>) {
         }
     }
     // The ledger stops here, wherever it is: for the others that is a stop like any other.
+    say("its input has ended, and so has the ledger");
     exit(0);
 }
 
