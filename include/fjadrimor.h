@@ -35,8 +35,8 @@
  * means a message or a notice that the protocol cannot have sent, FJ_NOT_SOUND that the bytes are
  * no record of a site: do not post, and call a person.
  *
- * examples/close.c takes two sites through a close. The promise that this rests on, and what it
- * asks of a ledger, are in docs/PROOF.md.
+ * examples/close.c is that loop. The promise that this rests on is in docs/PROOF.md; what it asks of
+ * a ledger, and what goes wrong otherwise, in docs/EMBEDDING.md.
  */
 #ifndef FJADRIMOR_H
 #define FJADRIMOR_H

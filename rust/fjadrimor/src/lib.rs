@@ -2,8 +2,8 @@
 //!
 //! Two to eight ledger sites post one dated entry, or all back it out, also where some of them stop
 //! on the way. Whatever is decided is decided by the library: this crate holds its bytes, hands
-//! them over and puts names to what comes back. It has no dependencies. `FJ_LIB_DIR` names the
-//! folder with the library when it is built.
+//! them over and puts names to what comes back. It has no dependencies. The build finds the library
+//! in the repository's `target/staticlib`, or in the folder that `FJ_LIB_DIR` names.
 //!
 //! # Where to start
 //!

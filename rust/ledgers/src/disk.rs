@@ -2,7 +2,7 @@
 
 use fjadrimor::{Site, State, Vote};
 use std::fmt;
-use std::fs::{self, File};
+use std::fs::{self, File, TryLockError};
 use std::io::{self, Write};
 use std::path::{Path, PathBuf};
 use std::str::FromStr;
@@ -90,29 +90,28 @@ impl FromStr for Entry {
 pub struct Disk(PathBuf);
 
 impl Disk {
-    /// The folder of a ledger in the folder of the register.
-    pub fn new(register: &Path, number: u8) -> Disk {
-        Disk(register.join(number.to_string()))
+    pub(crate) fn new(folder: PathBuf) -> Disk {
+        Disk(folder)
     }
 
-    /// Makes the folder, with an open entry in it. One that is there is left as it is: its entry
-    /// may be posted.
-    pub fn open(register: &Path, number: u8, entry: &Entry) -> io::Result<Disk> {
-        let disk = Disk::new(register, number);
-        named(register, fs::create_dir_all(register))?;
-        named(&disk.0, fs::create_dir(&disk.0))?;
-        sync(register)?;
+    /// Makes the folder, with an open entry in it.
+    pub(crate) fn open(folder: PathBuf, entry: &Entry) -> io::Result<Disk> {
+        named(&folder, fs::create_dir(&folder))?;
+        let disk = Disk(folder);
         disk.save_entry(entry)?;
         Ok(disk)
     }
 
-    /// Refuses a ledger whose folder is there.
-    pub fn must_be_new(&self) -> io::Result<()> {
-        let free = |exists| match exists {
-            true => Err(io::Error::other("this ledger has been opened already")),
-            false => Ok(()),
-        };
-        named(&self.0, self.0.try_exists().and_then(free))
+    /// Makes sure that the ledger runs once. The lock holds until the file is closed, at the latest
+    /// when the process ends.
+    pub fn lock(&self) -> io::Result<File> {
+        let path = self.0.join("lock");
+        let file = named(&path, File::create(&path))?;
+        match file.try_lock() {
+            Ok(()) => Ok(file),
+            Err(TryLockError::WouldBlock) => Err(io::Error::other("this ledger runs already")),
+            Err(TryLockError::Error(error)) => named(&path, Err(error)),
+        }
     }
 
     /// Where the ledger listens.
@@ -169,14 +168,14 @@ pub fn named<T>(path: &Path, done: io::Result<T>) -> io::Result<T> {
 }
 
 /// Writes a file, through to the disk.
-fn write(file: &Path, content: &[u8]) -> io::Result<()> {
+pub(crate) fn write(file: &Path, content: &[u8]) -> io::Result<()> {
     let mut file = File::create(file)?;
     file.write_all(content)?;
     file.sync_all()
 }
 
 /// Brings a folder to the disk: which files it has, and under which names.
-fn sync(folder: &Path) -> io::Result<()> {
+pub(crate) fn sync(folder: &Path) -> io::Result<()> {
     named(folder, File::open(folder).and_then(|folder| folder.sync_all()))
 }
 

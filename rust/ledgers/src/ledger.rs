@@ -2,7 +2,7 @@
 //! saved.
 
 use crate::disk::{Disk, Standing};
-use crate::mesh::{Heard, Mesh};
+use crate::mesh::{Heard, Mesh, News};
 use fjadrimor::{Kind, Refusal, Site, Step};
 use std::collections::HashSet;
 use std::fmt;
@@ -79,6 +79,11 @@ impl Ledger {
     /// A ledger whose saved record is this one.
     pub fn new(site: Site, disk: Disk, mesh: Mesh, pace: Pace) -> Ledger {
         Ledger { site, disk, mesh, pace }
+    }
+
+    /// News come; what they mean in the close is heard.
+    pub fn learns(&mut self, news: News) -> Result<(), Trouble> {
+        self.mesh.hears(news).map_or(Ok(()), |heard| self.hears(heard))
     }
 
     /// Something is heard. Then the ledger tries what it may do of itself: to lead where all lower

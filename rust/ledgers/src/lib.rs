@@ -9,10 +9,10 @@
 //!
 //! ```text
 //! ledgers open register 3
-//! ledgers run register 3 2             in a terminal
-//! ledgers run register 3 3             in another
-//! ledgers run register 3 1 paced       in a third: type close, then Enter for each action
-//! ledgers show register 3
+//! ledgers run register 2               in a terminal: it waits for 1, 3
+//! ledgers run register 3               in another
+//! ledgers run register 1 paced         in a third: type close, then Enter for each action
+//! ledgers show register
 //! ```
 //!
 //! Kill the third (`kill -9`) as it is about to send its second Commit: the other two post.
@@ -22,15 +22,16 @@
 //! # How this is a run of the rules
 //!
 //! What is proved is proved of the rules' runs, so each thing that a process does must be one of
-//! their events.
+//! their events. What goes wrong otherwise is in docs/EMBEDDING.md, by search: the program `astray`.
 //!
 //! - **A step** is taken by `Ledger::takes`. The library computes it, its messages leave, and the
 //!   record is saved after them. A ledger that is killed on the way has sent none, some or all of
 //!   the messages and has the record of before on its disk: that is the rules' stop inside a step.
-//!   Saved first, a killed ledger would have taken its step with the messages lost. No event of the
-//!   rules does that, and nothing is proved of it.
-//! - **A stop** is for ever. A ledger that finds a record in its folder does not join again; what
-//!   became of the entry, the ledgers that went on know. One that cannot save stops too.
+//! - **A run begins** when all ledgers have met ([`meeting`]), in whatever order they were started.
+//!   Before that a ledger has done nothing and saved nothing, and may be started again.
+//! - **A stop** is for ever. A ledger that finds a record in its folder has met the others, and does
+//!   not join again; what became of the entry, the ledgers that went on know. One that cannot save
+//!   stops too.
 //! - **A notice** comes once for each stop, since there is one socket between any two ledgers, and
 //!   only when the other process can do nothing more. It is read after all that the stopped ledger
 //!   had sent. The rules do not ask for that: what is under way may come before a notice or after.
@@ -42,4 +43,7 @@
 
 pub mod disk;
 pub mod ledger;
+pub mod meeting;
 pub mod mesh;
+pub mod random;
+pub mod register;

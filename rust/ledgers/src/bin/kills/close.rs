@@ -1,8 +1,10 @@
 //! One close by ledger processes, some of which are killed.
 
-use crate::plan::{Plan, Random, READY};
+use crate::plan::{Plan, READY};
 use fjadrimor::Site;
 use ledgers::disk::{Disk, Entry, Standing};
+use ledgers::random::Random;
+use ledgers::register::Register;
 use std::io::{self, BufRead, BufReader, Write};
 use std::path::Path;
 use std::process::{Child, ChildStdin, ChildStdout, Command, Stdio};
@@ -108,21 +110,21 @@ pub fn run(register: &Path, plan: Plan, random: &mut Random) -> io::Result<Told>
     Ok(Told { plan: close.plan, ledgers: ledgers.collect::<io::Result<_>>()?, trouble })
 }
 
-/// A folder for each ledger, with its open entry.
-fn disks(register: &Path, plan: &Plan) -> io::Result<Vec<Disk>> {
-    let open = |site| {
+/// A register with an open entry for each ledger.
+fn disks(folder: &Path, plan: &Plan) -> io::Result<Vec<Disk>> {
+    let entry = |site| {
         let debit = if plan.against == Some(site) { 1251 } else { 1250 };
         let date = "2031-12-31".to_string();
-        let entry = Entry { date, debit, credit: 1250, standing: Standing::Open };
-        Disk::open(register, site, &entry)
+        Entry { date, debit, credit: 1250, standing: Standing::Open }
     };
-    (1..=plan.n).map(open).collect()
+    let register = Register::open(folder, &(1..=plan.n).map(entry).collect::<Vec<_>>())?;
+    Ok(register.numbers().map(|number| register.disk(number)).collect())
 }
 
 fn start(register: &Path, plan: &Plan, site: u8, sender: &Sender<Line>) -> io::Result<Process> {
     let program = std::env::current_exe()?.with_file_name("ledgers");
     let mut command = Command::new(program);
-    command.arg("run").arg(register).args([plan.n.to_string(), site.to_string()]);
+    command.arg("run").arg(register).arg(site.to_string());
     command.args(plan.paced.then_some("paced"));
     let mut child = command.stdin(Stdio::piped()).stdout(Stdio::piped()).spawn()?;
     let (typing, output, sender) = (child.stdin.take(), child.stdout.take(), sender.clone());
@@ -151,14 +153,22 @@ impl Close<'_> {
         self.inbox.recv_timeout(patience.min(left)).ok()
     }
 
-    /// From the first process to the last decision.
-    fn happens(&mut self) -> io::Result<()> {
-        for _ in 1..=self.plan.n {
-            let line = self.next(PATIENCE);
-            if line.as_ref().and_then(|line| line.1.as_deref()) != Some(READY) {
-                return Err(io::Error::other(format!("{line:?} instead of ready")));
+    /// All ledgers are ready. Before that they may say for whom they wait.
+    fn meet(&mut self) -> io::Result<()> {
+        let mut ready = 0;
+        while ready < self.plan.n {
+            match self.next(PATIENCE) {
+                Some((_, Some(line))) if line == READY => ready += 1,
+                Some((_, Some(line))) if line.starts_with("waits for ") => {}
+                line => return Err(io::Error::other(format!("{line:?} instead of ready"))),
             }
         }
+        Ok(())
+    }
+
+    /// From the first process to the last decision.
+    fn happens(&mut self) -> io::Result<()> {
+        self.meet()?;
         for kill in self.plan.kills.clone().iter().filter(|kill| kill.before == READY) {
             self.process(kill.site).kill(Some(READY.to_string()))?;
         }

@@ -11,7 +11,8 @@ mod plan;
 mod replay;
 mod tally;
 
-use plan::{Plan, Random};
+use ledgers::random::Random;
+use plan::Plan;
 use std::io;
 use std::path::PathBuf;
 use std::process::ExitCode;
@@ -27,7 +28,7 @@ const USAGE: &str = "usage: kills [CLOSES [SEED]]";
 const LIMIT: Duration = Duration::from_secs(50);
 
 /// The number of closes at a time.
-const AT_A_TIME: usize = 3;
+const AT_A_TIME: usize = 4;
 
 /// A folder for registers, in memory where there is one.
 fn workplace() -> PathBuf {
