@@ -6,7 +6,7 @@
 use fjadrimor::Kind;
 use std::collections::BTreeMap;
 use std::hash::{BuildHasher, Hasher, RandomState};
-use std::io::{self, Read, Write};
+use std::io::{self, BufReader, Read, Write};
 use std::net::Shutdown;
 use std::os::unix::net::{UnixListener, UnixStream};
 use std::path::PathBuf;
@@ -59,7 +59,7 @@ impl Word {
         }
     }
 
-    fn read(socket: &mut UnixStream) -> io::Result<Word> {
+    fn read(socket: &mut impl Read) -> io::Result<Word> {
         let mut first = [0];
         socket.read_exact(&mut first)?;
         Ok(match first[0] {
@@ -70,13 +70,13 @@ impl Word {
     }
 }
 
-fn read_lives(socket: &mut UnixStream) -> io::Result<Lives> {
+fn read_lives(socket: &mut impl Read) -> io::Result<Lives> {
     let mut bytes = [[0; 8]; 8];
     socket.read_exact(bytes.as_flattened_mut())?;
     Ok(bytes.map(Life::from_be_bytes))
 }
 
-fn read_life(socket: &mut UnixStream) -> io::Result<Life> {
+fn read_life(socket: &mut impl Read) -> io::Result<Life> {
     let mut bytes = [0; 8];
     socket.read_exact(&mut bytes)?;
     Ok(Life::from_be_bytes(bytes))
@@ -140,7 +140,8 @@ pub enum News {
 
 /// Reads all that a ledger says, and only then reports that its life is over. An error is the end
 /// too: it means that the other end was closed before it had read everything.
-fn hear(mut socket: UnixStream, from: u8, life: Life, inbox: &Sender<News>) {
+fn hear(socket: UnixStream, from: u8, life: Life, inbox: &Sender<News>) {
+    let mut socket = BufReader::new(socket);
     while let Ok(word) = Word::read(&mut socket) {
         let _ = inbox.send(News::Said { from, life, word });
     }
@@ -159,11 +160,11 @@ pub fn take_calls(listener: &UnixListener, inbox: &Sender<News>) {
 /// Who calls: that comes with the call, and whoever does not say it at once is no ledger.
 fn caller(mut socket: UnixStream) -> io::Result<Peer> {
     socket.set_read_timeout(Some(PAUSES[1]))?;
-    let mut number = [0];
-    socket.read_exact(&mut number)?;
-    let life = read_life(&mut socket)?;
+    let mut hello = [0; 9];
+    socket.read_exact(&mut hello)?;
     socket.set_read_timeout(None)?;
-    Ok(Peer { number: number[0], life, socket })
+    let [number, life @ ..] = hello;
+    Ok(Peer { number, life: Life::from_be_bytes(life), socket })
 }
 
 /// A ledger that calls another.
