@@ -79,7 +79,10 @@ enum {
 /* V, the vote at a begin and at a delivery of Start; 0 in all else. */
 enum { FJ_VOTE_YES = 1, FJ_VOTE_NO = 2 };
 
-/* Outcomes. A step that is passed over writes nothing and changes at most the leader followed. */
+/*
+ * Outcomes. A step that is passed over writes nothing and changes at most the leader followed. In a
+ * run a delivered message leaves the network all the same.
+ */
 enum { FJ_TAKEN = 0, FJ_PASSED = 1, FJ_REFUSED = 2 };
 
 /* Grounds for refusal; 0 is none. */
@@ -105,9 +108,9 @@ enum {
     FJ_READS_NOTHING = 26, /* a transition reads nothing */
     FJ_READ_TWICE = 27,    /* a message is read by two sites */
     FJ_NOT_FINAL = 28,     /* abort leads to non-abort, or commit to non-commit */
-    FJ_CYCLE = 29,         /* a site's diagram has a cycle */
+    FJ_CYCLE = 29,         /* a site's diagram has a cycle, whatever the messages allow */
     FJ_MANY_STATES = 30,   /* more than 4,096 global states are reachable */
-    FJ_CLASH = 31          /* a transition writes a message that is still outstanding */
+    FJ_CLASH = 31          /* a transition can write a message still outstanding after its reading */
 };
 
 /* How many bytes a site, a run and a record have. */

@@ -6,8 +6,8 @@ use mathlib.Core.Logic.{_≢_, _⊎_, inl, inr, ⊎-elim}
 use native.Mathlib.Decide.{ℕ-discrete}
 use native.Mathlib.Omega.{arith}
 use Rattle.site.specs.declared.State.{State}
-use Rattle.promise.specs.Classes.{Kind, Ack, IsQ, IsW, IsA, IsC, PC, QW, QWA, Prepares, IsCommit, IsAbort, Stands, Relies, First, Leads, Onward, onward-stands, onward-first, onward-relies, qw-not-a, qwa-not-c, pc-not-a, pc-not-qw, q-in-qw, a-in-qwa, c-in-pc}
-use Rattle.promise.specs.View.{View, Evidence, seen, told, EP, EA, EC, Open, Lead, Mute, MayPrepare, Decided, MayAbort, MayCommit, Safe, nobody, Inv}
+use Rattle.promise.specs.Classes.{Kind, No, Ack, IsQ, IsW, IsA, IsC, PC, QW, QWA, Prepares, IsCommit, IsAbort, Stands, Relies, First, Leads, Onward, onward-stands, onward-relies, qw-not-a, qwa-not-c, pc-not-a, pc-not-qw, q-in-qw, a-in-qwa, c-in-pc}
+use Rattle.promise.specs.View.{View, Evidence, seen, told, EP, EA, EC, Open, Lead, Muted, Mute, MayPrepare, Decided, MayAbort, MayCommit, Safe, nobody, Inv}
 use Rattle.promise.specs.Less.{Votes}
 
 -- What holds of j and of every other number holds of each.
@@ -54,7 +54,7 @@ upd-other f j x i ne = go (ℕ-discrete i j)
 
 -- Site j is in state s and follows l; the votes given are w.
 abbrev pub become : View → ℕ → State → ℕ → (ℕ → Type 0) → View
-become a j s l w = record { runs = a .runs; st = upd (a .st) j s; ld = upd (a .ld) j l; voted = w; live = a .live }
+become a j s l w = record { by = a .by; runs = a .runs; stopped = a .stopped; st = upd (a .st) j s; ld = upd (a .ld) j l; voted = w; absent = a .absent; live = a .live }
 
 -- What such a change has to respect.
 pub record Fits (a : View) (j : ℕ) (s : State) (l : ℕ) (w : ℕ → Type 0) : Type 0 where
@@ -66,8 +66,8 @@ pub record Fits (a : View) (j : ℕ) (s : State) (l : ℕ) (w : ℕ → Type 0) 
   -- j does not return to q, nor to its first phase; in w there it has voted
   pub left : IsQ s → IsQ (a .st j)
   pub unvoted : IsQ s → w j → ⊥
-  pub first : First j s → First j (a .st j)
-  pub waiting : First j s → IsW s → w j
+  pub first : First (a .by) j s l → First (a .by) j (a .st j) (a .ld j)
+  pub waiting : First (a .by) j s l → IsW s → w j
   -- a leader goes onward
   pub lead : Lead a j → Onward (a .st j) s
   -- a leader that j acknowledged can still rely on it
@@ -89,30 +89,28 @@ module _ (a : View) (j : ℕ) (s : State) (l : ℕ) (w : ℕ → Type 0) (v : In
   new S K (told κ k i c x) = inl (told κ k i c x)
 
   was-open : (i : ℕ) → Open b i → Open a i
-  was-open i o = (o .0, all (λ i t m. First i t → First i (a .st i)) (f .first) (λ i _ x. x) i (o .1))
+  was-open i o = (o .0, all (λ i t m. First (a .by) i t m → First (a .by) i (a .st i) (a .ld i)) (f .first) (λ i _ x. x) i (o .1))
 
   -- j is still open only in q or w
   open-j : (i : ℕ) → Open b i → i ≡ j → QW s
-  open-j i o = all (λ i t m. First i t → i ≡ j → QW s) (λ x _. x .1) (λ i ne _ e. absurd (ne e)) i (o .1)
+  open-j i o = all (λ i t m. First (a .by) i t m → i ≡ j → QW s) (λ x _. x .1) (λ i ne _ e. absurd (ne e)) i (o .1)
 
-  mute-after : (exempt : ℕ → Type 0) → ((i : ℕ) → exempt i → (i ≡ j) × (IsQ s → ⊥) × (w j → a .voted j)) → Mute a exempt → Mute b nobody
-  mute-after exempt h u =
+  muted-after : (exempt : ℕ → Type 0) → ((i : ℕ) → exempt i → (i ≡ j) × (IsQ s → ⊥) × (w j → a .voted j)) → (k : ℕ) → Muted a exempt k → Muted b nobody k
+  muted-after exempt h k u =
       record {
-        site = u .site;
-        silent = λ x. ⊎-elim (u .silent) (λ e. speaks x e) (f .votes .new (u .site) x);
-        past = λ r. all (λ i t m. (IsQ (a .st i) → exempt i) → IsQ t → ⊥) (λ g q. h j (g (f .left q)) .1 q) (λ i ne g q. ne (h i (g q) .0)) (u .site) (u .past r);
+        silent = λ x. ⊎-elim (u .silent) (λ e. speaks x e) (f .votes .new k x);
+        past = λ r. all (λ i t m. (IsQ (a .st i) → exempt i) → IsQ t → ⊥) (λ g q. h j (g (f .left q)) .1 q) (λ i ne g q. ne (h i (g q) .0)) k (u .past r);
       }
     where
-      speaks : w (u .site) → (u .site ≡ j) × IsQ (a .st j) → ⊥
-      speaks x e = u .silent (rw (e .0) (h (u .site) (u .past (rw (e .0) (f .run)) (rw (e .0) (e .1))) .2 (rw (e .0) at x)))
+      speaks : w k → (k ≡ j) × IsQ (a .st j) → ⊥
+      speaks x e = u .silent (rw (e .0) (h k (u .past (rw (e .0) (f .run)) (rw (e .0) (e .1))) .2 (rw (e .0) at x)))
 
-  prepare : EP a ⊎ PC s → MayPrepare b nobody
-  prepare (inl e) = record { all = λ i. f .votes .old i (v .prepared e .all i); shut = λ i o. v .prepared e .shut i (was-open i o) }
-  prepare (inr p) =
-      record {
-        all = λ i. f .votes .old i (f .safe .prepared p .all i);
-        shut = λ i o. pc-not-qw s p (open-j i o (f .safe .prepared p .shut i (was-open i o)));
-      }
+  mute-after : (exempt : ℕ → Type 0) → ((i : ℕ) → exempt i → (i ≡ j) × (IsQ s → ⊥) × (w j → a .voted j)) → Mute a exempt → Mute b nobody
+  mute-after exempt h u = record { site = u .site; muted = muted-after exempt h (u .site) (u .muted) }
+
+  prepare : EP a ⊎ PC s → MayPrepare b
+  prepare (inl e) i = f .votes .old i (v .prepared e i)
+  prepare (inr c) i = f .votes .old i (f .safe .prepared c i)
 
   -- what holds where some site decided stays so where it holds of s
   keep : {S : State → Type 0} {κ : Kind} {E F : Type 0} → Decided a S κ E → S s → (F → ⊥) → Decided b S κ F
@@ -145,8 +143,8 @@ module _ (a : View) (j : ℕ) (s : State) (l : ℕ) (w : ℕ → Type 0) (v : In
   own-leader : Lead a j → l ≡ j
   own-leader h = let e : a .ld j ≡ j = h .0 in let u : a .ld j ≤ l = f .rise in let d : l ≤ j = f .own in omega arith
 
-  still-leads : Lead a j → Leads j s l
-  still-leads h = (own-leader h, λ x. h .1 (onward-first (f .lead h) x))
+  still-leads : Lead a j → Leads (a .by) j s l
+  still-leads h = (own-leader h, λ x. h .1 (f .first x))
 
   pub become-inv : Inv b
   become-inv =
@@ -157,12 +155,13 @@ module _ (a : View) (j : ℕ) (s : State) (l : ℕ) (w : ℕ → Type 0) (v : In
         down = v .down;
         lowest = v .lowest;
         unvoted = all (λ i t m. a .runs i → IsQ t → w i → ⊥) (λ r. f .unvoted) (λ i ne r q x. ⊎-elim (v .unvoted i r q) (λ e. ne (e .0)) (f .votes .new i x));
-        waiting = λ i o. all (λ i t m. a .runs i × First i t → IsW t → w i) (λ o. f .waiting (o .1)) (λ i _ o q. f .votes .old i (v .waiting i o q)) i o;
+        waiting = λ i o. all (λ i t m. a .runs i × First (a .by) i t m → IsW t → w i) (λ o. f .waiting (o .1)) (λ i _ o q. f .votes .old i (v .waiting i o q)) i o;
         yes = λ k i x. f .votes .old k (v .yes k i x);
-        orders = λ κ k i o x. all (λ k t m. a .live κ k i → a .runs k → Leads k t m × Stands κ t)
+        no = λ k i x. muted-after nobody (λ i e. absurd e) k (v .no k i x);
+        orders = λ κ k i o x. all (λ k t m. a .live κ k i → a .runs k → Leads (a .by) k t m × Stands κ t)
             (λ x r. let h = v .orders κ j i o x r in (still-leads (h .0), onward-stands (f .lead (h .0)) κ (h .1)))
             (λ k _ x. v .orders κ k i o x) k x;
-        leader = λ k i x. all (λ k t m. a .live Ack i k → a .runs k → Leads k t m) (λ x r. still-leads (v .leader j i x r)) (λ k _ x. v .leader k i x) k x;
+        leader = λ k i x. all (λ k t m. a .live Ack i k → a .runs k → Leads (a .by) k t m) (λ x r. still-leads (v .leader j i x r)) (λ k _ x. v .leader k i x) k x;
         follower = λ k i x. all (λ k t m. a .live Ack i k → a .runs k → a .runs i → Relies t k (b .st i) (b .ld i))
             (λ x r. all (λ i t m. a .live Ack i j → a .runs i → Relies s j t m)
             (λ x _. let h : j < j = v .down j j x in absurd (omega arith))

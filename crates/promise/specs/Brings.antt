@@ -15,7 +15,7 @@ use Rattle.site.specs.declared.Step.{Step}
 use Rattle.site.specs.declared.Step.the-variants as step
 use Rattle.site.specs.declared.Site.{Site as Record}
 use Rattle.promise.specs.SetsMembers.{In, with-in, in-with, in-with-new}
-use Rattle.promise.specs.Classes.{Kind, Start, Yes, No, MoveP, MoveW, Ack, Commit, Abort, byKind}
+use Rattle.promise.specs.Classes.{Kind, Start, Yes, No, MoveP, MoveW, Ack, Commit, Abort, Prepare, byKind}
 use Rattle.promise.specs.Does.{Uses, nothing, notes, message}
 use Rattle.promise.specs.Seen.{number, same-kind, Recorded, by-recorded}
 
@@ -101,7 +101,7 @@ IsMessage (message κ k) = Unit
 
 -- The kinds that a receiver records.
 abbrev pub Answer : Kind → Type 0
-Answer κ = byKind ⊥ Unit Unit ⊥ ⊥ Unit ⊥ ⊥ κ
+Answer κ = byKind ⊥ Unit Unit ⊥ ⊥ Unit ⊥ ⊥ ⊥ κ
 
 -- The record x with a Yes, No or Ack of `from` recorded.
 abbrev pub more : Kind → Kind → ℕ → ℕ → ℕ
@@ -151,3 +151,4 @@ hearing-new MoveP x from at o = o
 hearing-new MoveW x from at o = o
 hearing-new Commit x from at o = o
 hearing-new Abort x from at o = o
+hearing-new Prepare x from at o = o

@@ -1,14 +1,27 @@
 -- States and kinds of message in classes: each class is a type that is empty outside it, so that what a class rules out computes away.
 -- Assumes nothing.
-use Prim.Native.Nat.{ℕ, _≤_}
-use mathlib.Core.Path.{_≡_, refl, sym, ap, _∙_}
+use Prim.Native.Nat.{ℕ, _≤_, _<_}
+use mathlib.Core.Path.{_≡_, refl, sym, ap, subst, _∙_}
 use mathlib.Core.Logic.{_⊎_, inl, inr}
+use native.Mathlib.Omega.{arith}
 use Rattle.site.specs.declared.State.{State}
 use Rattle.site.specs.declared.State.the-variants.{Q, W, P, A, C}
 
--- The kinds of message of 01.
+-- The two protocols: with a coordinator, and with none.
+pub data Protocol : Type 0 where
+  Central Peers : Protocol
+
+-- One type for each protocol.
+abbrev pub byProtocol : (c p : Type 0) → Protocol → Type 0
+byProtocol c p Central = c
+byProtocol c p Peers = p
+
+pub not-both : {p : Protocol} → p ≡ Central → p ≡ Peers → ⊥
+not-both e f = subst (byProtocol Unit ⊥) (sym e ∙ f) tt
+
+-- The kinds of message of 01, and Prepare.
 pub data Kind : Type 0 where
-  Start Yes No MoveP MoveW Ack Commit Abort : Kind
+  Start Yes No MoveP MoveW Ack Commit Abort Prepare : Kind
 
 -- One type for each state.
 abbrev pub byState : (q w p a c : Type 0) → State → Type 0
@@ -52,25 +65,32 @@ abbrev pub WPAC : State → Type 0
 WPAC s = byState ⊥ Unit Unit Unit Unit s
 
 -- One type for each kind.
-abbrev pub byKind : (s y n p w k c a : Type 0) → Kind → Type 0
-byKind s y n p w k c a Start = s
-byKind s y n p w k c a Yes = y
-byKind s y n p w k c a No = n
-byKind s y n p w k c a MoveP = p
-byKind s y n p w k c a MoveW = w
-byKind s y n p w k c a Ack = k
-byKind s y n p w k c a Commit = c
-byKind s y n p w k c a Abort = a
+abbrev pub byKind : (s y n p w k c a r : Type 0) → Kind → Type 0
+byKind s y n p w k c a r Start = s
+byKind s y n p w k c a r Yes = y
+byKind s y n p w k c a r No = n
+byKind s y n p w k c a r MoveP = p
+byKind s y n p w k c a r MoveW = w
+byKind s y n p w k c a r Ack = k
+byKind s y n p w k c a r Commit = c
+byKind s y n p w k c a r Abort = a
+byKind s y n p w k c a r Prepare = r
 
 abbrev pub IsYes : Kind → Type 0
-IsYes κ = byKind ⊥ Unit ⊥ ⊥ ⊥ ⊥ ⊥ ⊥ κ
+IsYes κ = byKind ⊥ Unit ⊥ ⊥ ⊥ ⊥ ⊥ ⊥ ⊥ κ
+
+abbrev pub IsNo : Kind → Type 0
+IsNo κ = byKind ⊥ ⊥ Unit ⊥ ⊥ ⊥ ⊥ ⊥ ⊥ κ
+
+abbrev pub IsPrepare : Kind → Type 0
+IsPrepare κ = byKind ⊥ ⊥ ⊥ ⊥ ⊥ ⊥ ⊥ ⊥ Unit κ
 
 abbrev pub IsAck : Kind → Type 0
-IsAck κ = byKind ⊥ ⊥ ⊥ ⊥ ⊥ Unit ⊥ ⊥ κ
+IsAck κ = byKind ⊥ ⊥ ⊥ ⊥ ⊥ Unit ⊥ ⊥ ⊥ κ
 
 -- Kinds whose writing goes with a vote for yes: Start at Begin yes, and Yes.
 abbrev pub Gives : Kind → Type 0
-Gives κ = byKind Unit Unit ⊥ ⊥ ⊥ ⊥ ⊥ ⊥ κ
+Gives κ = byKind Unit Unit ⊥ ⊥ ⊥ ⊥ ⊥ ⊥ ⊥ κ
 
 abbrev pub IsCommit : Kind → Type 0
 IsCommit κ = κ ≡ Commit
@@ -88,6 +108,7 @@ atOrder MoveW = W
 atOrder Ack = Q
 atOrder Commit = C
 atOrder Abort = A
+atOrder Prepare = Q
 
 abbrev pub Order : Kind → Type 0
 Order κ = WPAC (atOrder κ)
@@ -101,7 +122,7 @@ Yields κ = WA (atOrder κ)
 
 -- The states in which a running site may be whose order of a kind is outstanding.
 abbrev pub Stands : Kind → State → Type 0
-Stands κ s = byKind Unit Unit Unit (PC s) (WA s) Unit (IsC s) (IsA s) κ
+Stands κ s = byKind Unit Unit Unit (PC s) (WA s) Unit (IsC s) (IsA s) Unit κ
 
 -- What leader k in the first state may rely on of a site that acknowledged, is in state s and follows l.
 abbrev pub Relies : State → ℕ → State → ℕ → Type 0
@@ -115,13 +136,28 @@ relies-if P k s l f g = g refl
 relies-if A k s l f g = tt
 relies-if C k s l f g = tt
 
--- Site k in state s is in its first phase: it may still prepare without an order.
-abbrev pub First : ℕ → State → Type 0
-First k s = (k ≡ 1) × QW s
+-- Site k that follows l is one that the first phase of a protocol is left to: site 1, or a peer that follows nobody yet.
+abbrev pub Early : Protocol → ℕ → ℕ → Type 0
+Early Central k l = k ≡ 1
+Early Peers k l = l ≡ 0
+
+-- Site k in state s, following l, is in its first phase: it may still prepare without an order.
+abbrev pub First : Protocol → ℕ → State → ℕ → Type 0
+First p k s l = Early p k l × QW s
 
 -- Site k in state s, following l, leads: it follows itself and is past its first phase.
-abbrev pub Leads : ℕ → State → ℕ → Type 0
-Leads k s l = (l ≡ k) × (First k s → ⊥)
+abbrev pub Leads : Protocol → ℕ → State → ℕ → Type 0
+Leads p k s l = (l ≡ k) × (First p k s l → ⊥)
+
+-- Who follows no higher one than before was in it before.
+pub early-before : (p : Protocol) (j m l : ℕ) → m ≤ l → Early p j l → Early p j m
+early-before Central j m l h e = e
+early-before Peers j m l h e = omega arith
+
+-- Who follows a lower leader is past it, and so is who follows another.
+pub late-above : (p : Protocol) (k j l : ℕ) → 1 ≤ k → k < j → k ≤ l → Early p j l → ⊥
+late-above Central k j l o h q e = omega arith
+late-above Peers k j l o h q e = omega arith
 
 -- What a leader's state may become: it stays, gives up, or commits.
 pub data Onward : State → State → Type 0 where
@@ -145,12 +181,7 @@ onward-stands h Start x = x
 onward-stands h Yes x = x
 onward-stands h No x = x
 onward-stands h Ack x = x
-
-pub onward-first : {s t : State} {k : ℕ} → Onward s t → First k t → First k s
-onward-first stays f = f
-onward-first drops f = absurd (f .1)
-onward-first gives-up f = absurd (f .1)
-onward-first commits f = absurd (f .1)
+onward-stands h Prepare x = x
 
 pub onward-relies : {s t : State} → Onward s t → (u : State) (k l : ℕ) → Relies s k u l → Relies t k u l
 onward-relies stays u k l x = x
@@ -224,6 +255,20 @@ rest-in-qwa W x = tt
 rest-in-qwa P x = x tt
 rest-in-qwa A x = tt
 rest-in-qwa C x = x tt
+
+pub rest-in-pc : (s : State) → (QWA s → ⊥) → PC s
+rest-in-pc Q x = x tt
+rest-in-pc W x = x tt
+rest-in-pc P x = tt
+rest-in-pc A x = x tt
+rest-in-pc C x = tt
+
+pub qwa-is : (s : State) → QWA s → QW s ⊎ IsA s
+qwa-is Q x = inl tt
+qwa-is W x = inl tt
+qwa-is P x = absurd x
+qwa-is A x = inr tt
+qwa-is C x = absurd x
 
 pub pc-not-qwa : (s : State) → PC s → QWA s → ⊥
 pc-not-qwa Q x y = x
@@ -302,26 +347,34 @@ order-in Start o = absurd o
 order-in Yes o = absurd o
 order-in No o = absurd o
 order-in Ack o = absurd o
+order-in Prepare o = absurd o
 
 pub same-order : (κ κ′ : Kind) → Order κ → Order κ′ → atOrder κ ≡ atOrder κ′ → κ ≡ κ′
 same-order κ κ′ o o′ e = sym (order-in κ o) ∙ ap orderIn e ∙ order-in κ′ o′
 
 -- No order is of a class of the other kinds.
-pub order-apart : (s y n k : Type 0) (κ : Kind) → Order κ → byKind s y n ⊥ ⊥ k ⊥ ⊥ κ → ⊥
-order-apart s y n k MoveP o x = x
-order-apart s y n k MoveW o x = x
-order-apart s y n k Commit o x = x
-order-apart s y n k Abort o x = x
-order-apart s y n k Start o x = o
-order-apart s y n k Yes o x = o
-order-apart s y n k No o x = o
-order-apart s y n k Ack o x = o
+pub order-apart : (s y n k r : Type 0) (κ : Kind) → Order κ → byKind s y n ⊥ ⊥ k ⊥ ⊥ r κ → ⊥
+order-apart s y n k r MoveP o x = x
+order-apart s y n k r MoveW o x = x
+order-apart s y n k r Commit o x = x
+order-apart s y n k r Abort o x = x
+order-apart s y n k r Start o x = o
+order-apart s y n k r Yes o x = o
+order-apart s y n k r No o x = o
+order-apart s y n k r Ack o x = o
+order-apart s y n k r Prepare o x = o
 
 pub order-gives : (κ : Kind) → Order κ → Gives κ → ⊥
-order-gives κ = order-apart Unit Unit ⊥ ⊥ κ
+order-gives κ = order-apart Unit Unit ⊥ ⊥ ⊥ κ
 
 pub order-acks : (κ : Kind) → Order κ → IsAck κ → ⊥
-order-acks κ = order-apart ⊥ ⊥ ⊥ Unit κ
+order-acks κ = order-apart ⊥ ⊥ ⊥ Unit ⊥ κ
+
+pub order-nos : (κ : Kind) → Order κ → IsNo κ → ⊥
+order-nos κ = order-apart ⊥ ⊥ Unit ⊥ ⊥ κ
+
+pub order-prepare : (κ : Kind) → Order κ → IsPrepare κ → ⊥
+order-prepare κ = order-apart ⊥ ⊥ ⊥ ⊥ Unit κ
 
 -- A Yes goes with a vote.
 pub yes-gives : (κ : Kind) → IsYes κ → Gives κ
@@ -333,3 +386,16 @@ yes-gives MoveW x = x
 yes-gives Ack x = x
 yes-gives Commit x = x
 yes-gives Abort x = x
+yes-gives Prepare x = x
+
+-- A No goes with none.
+pub no-withholds : (κ : Kind) → IsNo κ → Gives κ → ⊥
+no-withholds Start x y = x
+no-withholds Yes x y = x
+no-withholds No x y = y
+no-withholds MoveP x y = x
+no-withholds MoveW x y = x
+no-withholds Ack x y = x
+no-withholds Commit x y = x
+no-withholds Abort x y = x
+no-withholds Prepare x y = x

@@ -4,7 +4,7 @@ use Prim.Native.Nat.{ℕ, zero, suc, _+_, _-_, _≤_, _<_}
 use mathlib.Core.Bool.{false}
 use mathlib.Core.Path.{_≡_, refl, sym, ap}
 use mathlib.Core.Logic.{_≢_, _⊎_, inl, inr, ⊎-elim}
-use native.Mathlib.Decide.{ℕ-discrete}
+use native.Mathlib.Decide.{ℕ-discrete, decLt}
 use native.Mathlib.Omega.{arith}
 use Rattle.sets.specs.Sets.{has, union, without}
 use Rattle.sets.specs.SetLaws.{has-site, one-if, members}
@@ -123,6 +123,18 @@ members-range m k n (suc w) h = go (members-range m k n w h) (spot m (suc w))
 
 pub members-above : (m k n w : ℕ) → ((i : ℕ) → In m i → (k < i) × (i ≤ n)) → members m w ≤ n - k
 members-above m k n w h = members-range m k n w h .0
+
+-- members up to n, and not j
+pub members-others : (m j n w : ℕ) → 1 ≤ j → j ≤ n → ((i : ℕ) → In m i → (i ≢ j) × (i ≤ n)) → (members m w ≤ n - 1) × (members m w ≤ w) × (j ≤ w → members m w ≤ w - 1)
+unfolding members
+members-others m j n zero p q h = (omega arith, omega arith, λ l. omega arith)
+members-others m j n (suc w) p q h = go (members-others m j n w p q h) (spot m (suc w)) (decLt w j)
+  where
+    go : (members m w ≤ n - 1) × (members m w ≤ w) × (j ≤ w → members m w ≤ w - 1) → Spot m (suc w) → Dec (w < j)
+        → (members m w + one-if (has m (suc w)) ≤ n - 1) × (members m w + one-if (has m (suc w)) ≤ suc w) × (j ≤ suc w → members m w + one-if (has m (suc w)) ≤ suc w - 1)
+    go r (inr s) d = (omega (arith, r .0, s .0), omega (arith, r .1, s .0), λ l. omega (arith, r .1, s .0))
+    go r (inl s) (yes d) = let t = h (suc w) (s .1) in let u : suc w ≢ j = t .0 in (omega (arith, r .1, s .0), omega (arith, r .1, s .0), λ l. absurd (omega arith))
+    go r (inl s) (no d) = let t = h (suc w) (s .1) in let e : members m w ≤ w - 1 = r .2 (omega arith) in (omega (arith, s .0, t .1), omega (arith, s .0), λ l. omega (arith, s .0))
 
 pub members-only : (m k w : ℕ) → ((i : ℕ) → In m i → i ≡ k) → members m w ≤ 1
 members-only m k w h = omega (arith, members-above m (k - 1) k w (λ i x. (omega (arith, h i x, has-site m i x .least), omega (arith, h i x))))

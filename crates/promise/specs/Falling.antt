@@ -35,7 +35,8 @@ use Rattle.promise.specs.Seen.{number, viewOf}
 use Rattle.promise.specs.Brings.{Notices, weigh, netWorth, newsWorth}
 use Rattle.promise.specs.Stepping.{in-run}
 use Rattle.promise.specs.Keeping.{Held, Now, With, delivered-len, doneAt, kindAt, wholeAt, leaving, partAt, Known, known, keeps}
-use Rattle.promise.specs.Count.{by-size, members-above, members-only, members-none, members-some}
+use Rattle.promise.specs.Count.{by-size, members-above, members-others, members-only, members-none, members-some}
+use Rattle.promise.specs.Classes.{Central}
 use Rattle.promise.specs.Measure.{own, falls}
 use Rattle.promise.specs.Potential.{messages, messages-sent, messages-taken, messages-halted, messages-stopped, partOf, parts, part-runs, part-stopped, parts-at, pairs, pairs-le, pairs-learn, potential, potential-is, fresh-potential}
 use Rattle.promise.specs.Fresh.{nothing, start-held, fresh-is}
@@ -72,7 +73,7 @@ module _ (r : Run) (s : ℕ) (x : Runs r s) (n8 : r .n ≤ 8) (net : List ℕ) w
   abbrev gone : Run
   gone = record { n = r .n; stopped = withSite (r .stopped) s; sites = r .sites; net = net }
 
-  parts-gone : parts gone + (1 + own (r .n) s (recordOf (r .sites) s .state) (recordOf (r .sites) s .leader)) ≡ parts r
+  parts-gone : parts gone + (1 + own Central (r .n) s (recordOf (r .sites) s .state) (recordOf (r .sites) s .leader)) ≡ parts r
   parts-gone =
       omega (
         arith,
@@ -102,7 +103,7 @@ module _ (w : ℕ → Type 0) (r : Run) (h : Held w r) (s : ℕ) (t : Step) (al 
 
   -- what a running site may still do, before
   abbrev before : ℕ
-  before = own (r .n) s (recordOf (r .sites) s .state) (recordOf (r .sites) s .leader)
+  before = own Central (r .n) s (recordOf (r .sites) s .state) (recordOf (r .sites) s .leader)
 
   -- messages to a part m of the sites that the step writes to
   module _ (m : ℕ) (sub : (i : ℕ) → In m i → In (d .to) i) where
@@ -116,19 +117,19 @@ module _ (w : ℕ → Type 0) (r : Run) (h : Held w r) (s : ℕ) (t : Step) (al 
             zero-times a b = omega arith
         go (inr x) = ap (λ (k : ℕ). weigh k * members m 8) (kinds (x .0) (sub (x .0) (x .1)))
 
-    lowers : own (r .n) s (d .site .state) (d .site .leader) + weigh (kindAt r s t) * members m 8 + 1 ≤ before + (netWorth t + newsWorth t)
+    lowers : own Central (r .n) s (d .site .state) (d .site .leader) + weigh (kindAt r s t) * members m 8 + 1 ≤ before + (netWorth t + newsWorth t)
     lowers =
         omega (
           arith,
           weight,
           y .spends .fee,
           falls (viewOf w r) s (λ i. In (d .to) i) (h .inv) (running (al .able) .least) (r .n) (members m 8)
-              (λ f. members-above m s (r .n) 8 (λ i x. (f i (sub i x), y .within i (sub i x)))) (λ k f. members-only m k 8 (λ i x. f i (sub i x))) (λ f. members-none m 8 (λ i x. f i (sub i x))) (y .act),
+              (λ f. members-above m s (r .n) 8 (λ i x. (f i (sub i x), y .within i (sub i x)))) (λ f. members-others m s (r .n) 8 (running (al .able) .least) (running (al .able) .most) (λ i x. (f i (sub i x), y .within i (sub i x))) .0) (λ k f. members-only m k 8 (λ i x. f i (sub i x))) (λ f. members-none m 8 (λ i x. f i (sub i x))) (y .act),
         )
 
   -- ---- whole
 
-  parts-whole : parts q + (1 + before) ≡ parts r + (1 + own (r .n) s (d .site .state) (d .site .leader))
+  parts-whole : parts q + (1 + before) ≡ parts r + (1 + own Central (r .n) s (d .site .state) (d .site .leader))
   parts-whole =
       omega (
         arith,

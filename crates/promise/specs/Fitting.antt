@@ -7,8 +7,8 @@ use native.Mathlib.Decide.{decLt}
 use native.Mathlib.Omega.{arith}
 use Rattle.site.specs.declared.State.{State}
 use Rattle.site.specs.declared.State.the-variants.{Q, W, P, A, C}
-use Rattle.promise.specs.Classes.{Kind, MoveP, MoveW, Ack, IsQ, IsA, WA, PC, QWA, Order, Stands, Relies, First, Onward, stays, drops, gives-up, commits, relies-if, pc-not-qwa, pc-not-wa, pc-not-q, c-in-pc, rest-in-qwa}
-use Rattle.promise.specs.View.{View, seen, told, EP, EA, EC, Open, Lead, Mute, MayPrepare, MayAbort, MayCommit, Safe, nobody, Inv}
+use Rattle.promise.specs.Classes.{Kind, MoveP, MoveW, Ack, IsQ, IsA, WA, PC, QWA, Order, Stands, Relies, Early, First, early-before, Onward, stays, drops, gives-up, commits, relies-if, pc-not-qwa, pc-not-wa, pc-not-q, c-in-pc, rest-in-qwa}
+use Rattle.promise.specs.View.{View, seen, told, EP, EA, EC, Open, Lead, Muted, Mute, MayPrepare, MayAbort, MayCommit, Safe, nobody, Inv}
 use Rattle.promise.specs.Less.{Votes}
 use Rattle.promise.specs.Become.{Fits}
 
@@ -17,18 +17,18 @@ module _ (a : View) (j : ℕ) where
   abbrev pub self : ℕ → Type 0
   self i = i ≡ j
 
-  pub ease-prepare : MayPrepare a nobody → MayPrepare a self
-  ease-prepare p = record { all = p .all; shut = λ i o. absurd (p .shut i o) }
+  pub ease-muted : (k : ℕ) → Muted a nobody k → Muted a self k
+  ease-muted k u = record { silent = u .silent; past = λ r q. absurd (u .past r q) }
 
   pub ease-abort : MayAbort a nobody → MayAbort a self
   ease-abort p =
       record {
         decided = p .decided;
-        barred = λ i o. ⊎-elim (λ e. absurd e) (λ u. inr (record { site = u .site; silent = u .silent; past = λ r q. absurd (u .past r q) })) (p .barred i o);
+        barred = λ i o. ⊎-elim (λ e. absurd e) (λ u. inr (record { site = u .site; muted = ease-muted (u .site) (u .muted) })) (p .barred i o);
       }
 
   pub ease : {s : State} → Safe a s nobody → Safe a s self
-  ease h = record { prepared = λ p. ease-prepare (h .prepared p); aborted = λ p. ease-abort (h .aborted p); committed = h .committed; beside-a = h .beside-a; beside-c = h .beside-c }
+  ease h = record { prepared = h .prepared; aborted = λ p. ease-abort (h .aborted p); committed = h .committed; beside-a = h .beside-a; beside-c = h .beside-c }
 
   -- the state of a running site is safe
   pub standing : Inv a → a .runs j → Safe a (a .st j) nobody
@@ -46,13 +46,13 @@ module _ (a : View) {x : ℕ → Type 0} where
   pub safe-w : (EC a → ⊥) → Safe a W x
   safe-w n = record { prepared = λ e. absurd e; aborted = λ e. absurd e; committed = λ e. absurd e; beside-a = λ _. tt; beside-c = n }
 
-  pub safe-p : MayPrepare a x → (EA a → ⊥) → Safe a P x
+  pub safe-p : MayPrepare a → (EA a → ⊥) → Safe a P x
   safe-p p n = record { prepared = λ _. p; aborted = λ e. absurd e; committed = λ e. absurd e; beside-a = n; beside-c = λ _. tt }
 
   pub safe-a : MayAbort a x → Safe a A x
   safe-a o = record { prepared = λ e. absurd e; aborted = λ _. o; committed = λ e. absurd e; beside-a = λ _. tt; beside-c = o .decided .apart }
 
-  pub safe-c : MayPrepare a x → MayCommit a → Safe a C x
+  pub safe-c : MayPrepare a → MayCommit a → Safe a C x
   safe-c p o = record { prepared = λ _. p; aborted = λ e. absurd e; committed = λ _. o; beside-a = o .apart; beside-c = λ _. tt }
 
 pub c-is-p : (a : View) → EC a → EP a
@@ -80,6 +80,10 @@ still-relies a j l rise s k f g h =
 
 -- Site j runs and changes to a state of some class, following l.
 module _ (a : View) (j l : ℕ) (w : ℕ → Type 0) (v : Inv a) (r : a .runs j) (g : Votes a j w) (rise : a .ld j ≤ l) (own : l ≤ j) where
+  -- who is left to the first phase afterwards was so before
+  earlier : Early (a .by) j l → Early (a .by) j (a .ld j)
+  earlier = early-before (a .by) j (a .ld j) l rise
+
   -- the state stays
   pub fits-same : (w j → a .voted j) → Safe a (a .st j) (λ i. i ≡ j) → Fits a j (a .st j) l w
   fits-same quiet o =
@@ -90,8 +94,8 @@ module _ (a : View) (j l : ℕ) (w : ℕ → Type 0) (v : Inv a) (r : a .runs j)
         own = own;
         left = λ q. q;
         unvoted = λ q x. v .unvoted j r q (quiet x);
-        first = λ f. f;
-        waiting = λ f q. g .old j (v .waiting j (r, f) q);
+        first = λ f. (earlier (f .0), f .1);
+        waiting = λ f q. g .old j (v .waiting j (r, (earlier (f .0), f .1)) q);
         lead = λ _. stays;
         relied = λ k _ _ _. still-relies a j l rise (a .st j) k (λ _ _ x. x) (λ _ _ x. x);
         safe = o;
@@ -103,7 +107,7 @@ module _ (a : View) (j l : ℕ) (w : ℕ → Type 0) (v : Inv a) (r : a .runs j)
   Relied s = (k : ℕ) → k ≢ j → a .runs k → a .live Ack j k → Relies (a .st k) k (a .st j) (a .ld j) → Relies (a .st k) k s l
 
   -- to another state than q
-  fits-to : (s : State) → (IsQ s → ⊥) → (First j s → First j (a .st j)) → (First j s → w j) → (Lead a j → Onward (a .st j) s) → Relied s → (IsA s → w j → a .voted j)
+  fits-to : (s : State) → (IsQ s → ⊥) → (First (a .by) j s l → First (a .by) j (a .st j) (a .ld j)) → (First (a .by) j s l → w j) → (Lead a j → Onward (a .st j) s) → Relied s → (IsA s → w j → a .voted j)
       → Safe a s (λ i. i ≡ j) → Fits a j s l w
   fits-to s n first waiting lead relied silent safe =
       record {
@@ -148,11 +152,18 @@ module _ (a : View) (j l : ℕ) (w : ℕ → Type 0) (v : Inv a) (r : a .runs j)
       (λ k _ _ _. still-relies a j l rise C k (λ _ _ x. absurd (pc-not-wa (a .st j) q x)) (λ _ _ _. tt)) (λ e. absurd e)
 
   -- to w or p, at a site that does not lead
-  pub fits-w : (First j W → First j (a .st j)) → (First j W → w j) → (Lead a j → ⊥) → Relied W → Safe a W (λ i. i ≡ j) → Fits a j W l w
-  fits-w first waiting idle relied = fits-to W (λ e. e) first waiting (λ h. absurd (idle h)) relied (λ e. absurd e)
+  pub fits-w : (Early (a .by) j l → First (a .by) j (a .st j) (a .ld j)) → (Early (a .by) j l → w j) → (Lead a j → ⊥) → Relied W → Safe a W (λ i. i ≡ j) → Fits a j W l w
+  fits-w first waiting idle relied = fits-to W (λ e. e) (λ f. first (f .0)) (λ f. waiting (f .0)) (λ h. absurd (idle h)) relied (λ e. absurd e)
 
   pub fits-p : (Lead a j → ⊥) → Relied P → Safe a P (λ i. i ≡ j) → Fits a j P l w
   fits-p idle relied = fits-to P (λ e. e) (λ f. absurd (f .1)) (λ f. absurd (f .1)) (λ h. absurd (idle h)) relied (λ e. absurd e)
+
+  -- who relies on a site that follows nobody does so for nothing
+  pub relies-none : (s : State) (k : ℕ) → a .ld j ≡ 0 → a .runs k → Relies (a .st k) k (a .st j) (a .ld j) → Relies (a .st k) k s l
+  relies-none s k e x = still-relies a j l rise s k (λ _ q _. absurd (high q)) (λ _ q _. absurd (high q))
+    where
+      high : k ≤ a .ld j → ⊥
+      high q = let c : 1 ≤ k = v .site k x in omega arith
 
   -- in q a site acknowledged nobody that waits for p
   pub relies-q : (k : ℕ) → IsQ (a .st j) → Relies (a .st k) k (a .st j) (a .ld j) → Relies (a .st k) k W l

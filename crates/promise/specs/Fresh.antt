@@ -19,9 +19,10 @@ use Rattle.run.specs.RunLaws.{frame}
 use Rattle.run.specs.GoodRuns.{fresh-good}
 use Rattle.promise.specs.SetsMembers.{in-none}
 use Rattle.promise.specs.RunViews.{recordOf, Out}
-use Rattle.promise.specs.Classes.{Kind, Yes, Ack}
+use Rattle.promise.specs.Classes.{Kind, Yes, No, Ack, not-both, Central}
 use Rattle.promise.specs.View.{View, Evidence, seen, Inv}
 use Rattle.promise.specs.View as view
+use Rattle.promise.specs.First.{Own}
 use Rattle.promise.specs.Seen.{number, Recorded, by-recorded, viewOf}
 use Rattle.promise.specs.Words.{Voted, begins, answers, leaves, later}
 use Rattle.promise.specs.RunAfter.{told-keeps}
@@ -46,6 +47,7 @@ module _ (a : View) (first : (i : ℕ) → a .runs i → 1 ≤ i) (state : (i : 
         unvoted = λ j r _. silent j r;
         waiting = λ j _ x. absurd (rw (state j) at x);
         yes = λ k j x. absurd (still Yes k j x);
+        no = λ k j x. absurd (still No k j x);
         orders = λ κ k j _ x. absurd (still κ k j x);
         leader = λ k j x. absurd (still Ack j k x);
         follower = λ k j x. absurd (still Ack j k x);
@@ -53,6 +55,9 @@ module _ (a : View) (first : (i : ℕ) → a .runs i → 1 ≤ i) (state : (i : 
         aborted = λ e. absurd (no-evidence (λ x. x) e);
         committed = λ e. absurd (no-evidence (λ x. x) e);
       }
+
+  quiet-own : a .by ≡ Central → Own a
+  quiet-own b = record { central = λ _. record { shut = λ e. absurd (no-evidence (λ x. x) e) }; peers = λ p. absurd (not-both b p) }
 
 -- ---- the fresh run
 
@@ -94,6 +99,9 @@ fresh-held n =
       inv =
           quiet-inv (viewOf nothing (freshRun n)) (λ i r. r .least) (each-fresh n (λ x _. x .state ≡ Q) (λ _ _. refl) (λ _. refl)) (each-fresh n (λ x i. x .leader ≤ i) (λ _ h. h) (λ _. omega arith))
           (λ i r v. v (r .least) (r .most)) (no-live n);
+      own =
+          quiet-own (viewOf nothing (freshRun n)) (λ i r. r .least) (each-fresh n (λ x _. x .state ≡ Q) (λ _ _. refl) (λ _. refl)) (each-fresh n (λ x i. x .leader ≤ i) (λ _ h. h) (λ _. omega arith))
+          (λ i r v. v (r .least) (r .most)) (no-live n) refl;
     }
 
 -- ---- after events

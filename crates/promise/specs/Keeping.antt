@@ -31,12 +31,13 @@ use Rattle.promise.specs.RunViews.{recordOf, Placed, placed, replaced, o
 use Rattle.run.specs.SoundLaws.{sound-parts}
 use Rattle.run.specs.Happens.{Able, Acting}
 use Rattle.promise.specs.RunEvents.{Accepted, accepted-is, running, whole-is, part-is, stop-is, Denied, decide, decide-stop}
-use Rattle.promise.specs.Classes.{IsYes, Gives, IsQ, order-gives, yes-gives}
+use Rattle.promise.specs.Classes.{IsYes, Gives, IsQ, yes-gives}
 use Rattle.promise.specs.View.{Inv}
-use Rattle.promise.specs.Less.{Less, less, stop, Votes, stop-inv}
+use Rattle.promise.specs.First.{Own}
+use Rattle.promise.specs.Less.{Less, stop, Votes, stop-less}
 use Rattle.promise.specs.Become.{by-site, become}
 use Rattle.promise.specs.Send.{send}
-use Rattle.promise.specs.Safety.{whole, cut}
+use Rattle.promise.specs.Kept.{Kept, kept-less, kept-whole, kept-cut}
 use Rattle.promise.specs.Seen.{number, viewOf, wholeRun, wholly-less, stopped-view, partRun, partly-less}
 use Rattle.promise.specs.Brings.{Delivers, Voices, Starts}
 use Rattle.promise.specs.Stepping.{Sure, Stepped, steps}
@@ -46,6 +47,11 @@ use Rattle.promise.specs.Words.{Voted, begins, answers, leaves, later}
 pub record Held (w : ℕ → Type 0) (r : Run) : Type 0 where
   pub shape : Shape r
   pub inv : Inv (viewOf w r)
+  pub own : Own (viewOf w r)
+
+-- The same, as what every run keeps.
+kept-of : {w : ℕ → Type 0} {r : Run} → Held w r → Kept (viewOf w r)
+kept-of h = record { shared = h .inv; first = h .own }
 
 -- ---- votes of one event
 
@@ -225,19 +231,23 @@ module _ (w : ℕ → Type 0) (r : Run) (h : Held w r) (s : ℕ) (t : Step) (al 
       subst (Held (With w (Now r (Act s t)))) (sym whole-run)
       (record {
         shape = record { sites = length-set (r .sites) _ _ ∙ h .shape .sites; net = length-set (delivered r s t .net) _ _ ∙ delivered-len r s t (h .shape) };
-        inv = less _ _ (whole-less (With w (Now r (Act s t))))
-            (whole (viewOf w r) s (h .inv) (running (al .able)) _ (votes (Now r (Act s t)) (λ i. spoken)) _ _ (seen .κ) (seen .uses) (λ i. In (d .to) i) (λ i. In (d .to) i) (seen .act) (λ i y. y)
-            (λ y p q. inr (speaks r s t (seen .votes .gives y .0) (outcome ∙ seen .votes .gives y .1))) (quiet (Now r (Act s t)) (λ i. spoken)));
+        inv = after .shared;
+        own = after .first;
       })
+    where
+      after : Kept (viewOf (With w (Now r (Act s t))) (wholeAt r s t))
+      after =
+          kept-less _ _ (whole-less (With w (Now r (Act s t))))
+          (kept-whole (viewOf w r) s (kept-of h) (running (al .able)) _ (votes (Now r (Act s t)) (λ i. spoken)) _ _ (seen .κ) (seen .uses) (λ i. In (d .to) i) (λ i. In (d .to) i) (seen .act) (λ i y. y)
+          (λ y p q. inr (speaks r s t (seen .votes .gives y .0) (outcome ∙ seen .votes .gives y .1))) (quiet (Now r (Act s t)) (λ i. spoken)))
 
   pub part-held : (x : ℕ) → Held (With w (Now r (Cut s t x))) (eventOf r (Cut s t x) .run)
   part-held x =
       subst (Held (With w (Now r (Cut s t x)))) (sym (part-run x))
       (record {
         shape = record { sites = h .shape .sites; net = simp (length-set, length-map) (h .shape .net) };
-        inv = less _ _ (part-less (With w (Now r (Cut s t x))) x)
-            (cut (viewOf w r) s (h .inv) (running (al .able)) _ (votes (Now r (Cut s t x)) (λ i. spoken-cut)) _ _ (seen .κ) (seen .uses) (λ i. In (d .to) i) (λ i. In (both (d .to) x) i) (seen .act)
-            (λ i y. both-l (d .to) x i y) left (λ o. quiet (Now r (Cut s t x)) (λ i. spoken-cut) (order-gives (seen .κ) o)));
+        inv = after .shared;
+        own = after .first;
       })
     where
       left : IsYes (seen .κ) → (i : ℕ) → In (both (d .to) x) i → viewOf (With w (Now r (Cut s t x))) r .voted s
@@ -246,17 +256,23 @@ module _ (w : ℕ → Type 0) (r : Run) (h : Held w r) (s : ℕ) (t : Step) (al 
           let g = seen .votes .gives (yes-gives (seen .κ) o) in
           inr (speaks-cut r s t x (g .0) (e .0) (outcome ∙ g .1) (subst (λ (i : ℕ). has x i ≡ true) (e .1) (both-r (d .to) x i y)))
 
+      after : Kept (viewOf (With w (Now r (Cut s t x))) (partAt r s t x))
+      after =
+          kept-less _ _ (part-less (With w (Now r (Cut s t x))) x)
+          (kept-cut (viewOf w r) s (kept-of h) (running (al .able)) _ (votes (Now r (Cut s t x)) (λ i. spoken-cut)) _ _ (seen .κ) (seen .uses) (λ i. In (d .to) i) (λ i. In (both (d .to) x) i) (seen .act)
+          (λ i y. both-l (d .to) x i y) left (quiet (Now r (Cut s t x)) (λ i. spoken-cut)))
+
 -- ---- every event
 
 -- the votes may be written in another way
 pub revote : (w w′ : ℕ → Type 0) (r : Run) → ((i : ℕ) → w i → w′ i) → ((i : ℕ) → w′ i → w i) → Held w r → Held w′ r
-revote w w′ r f g h =
-    record {
-      shape = h .shape;
-      inv = less (viewOf w r) (viewOf w′ r)
-          (record { st = λ i. refl; ld = λ i. refl; runs = λ i y. y; old = λ i y p q. f i (y p q); new = λ i y. inl (λ p q. g i (y p q)); live = λ κ k i y. y })
-          (h .inv);
-    }
+revote w w′ r f g h = record { shape = h .shape; inv = after .shared; own = after .first }
+  where
+    after : Kept (viewOf w′ r)
+    after =
+        kept-less (viewOf w r) (viewOf w′ r)
+        (record { by = refl; absent = λ i y. y; st = λ i. refl; ld = λ i. refl; runs = λ i y. y; old = λ i y p q. f i (y p q); new = λ i y. inl (λ p q. g i (y p q)); live = λ κ k i y. y })
+        (kept-of h)
 
 module _ (w : ℕ → Type 0) (r : Run) (h : Held w r) where
   -- a refused event changes nothing, and gives no vote
@@ -280,12 +296,12 @@ module _ (w : ℕ → Type 0) (r : Run) (h : Held w r) where
           (revote w (With w (Now r (Stop s))) (stoppedAt r s) (λ i y. inl y) (λ i. ⊎-elim (λ y. y) (λ y. absurd (stop-silent s i y))) stops)
         where
           stops : Held w (stoppedAt r s)
-          stops =
-              record {
-                shape = unfold stoppedAt in record { sites = h .shape .sites; net = length-map (r .net) _ ∙ h .shape .net };
-                inv = less _ _ (stopped-view r s (omega (arith, running n .most, sound-parts r (h .shape) (n .sound) .most)) w w)
-                    (stop-inv (viewOf w r) s _ (running n) (record { old = λ i y. y; new = λ i y. inl y }) (h .inv));
-              }
+          stops = record { shape = unfold stoppedAt in record { sites = h .shape .sites; net = length-map (r .net) _ ∙ h .shape .net }; inv = after .shared; own = after .first }
+            where
+              after : Kept (viewOf w (stoppedAt r s))
+              after =
+                  kept-less _ _ (stopped-view r s (omega (arith, running n .most, sound-parts r (h .shape) (n .sound) .most)) w w)
+                  (kept-less _ _ (stop-less (viewOf w r) s _ (running n) (record { old = λ i y. y; new = λ i y. inl y })) (kept-of h))
 
   -- no event conflicts
   accepts : (o : Outcome) → Accepted o → o ≡ Refused 6 → ⊥

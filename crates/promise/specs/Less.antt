@@ -4,11 +4,13 @@ use Prim.Native.Nat.{ℕ}
 use mathlib.Core.Path.{_≡_, refl, subst, fun-ext}
 use mathlib.Core.Logic.{_≢_, _⊎_, inl, inr, ⊎-elim}
 use Rattle.site.specs.declared.State.{State}
-use Rattle.promise.specs.Classes.{Kind, Yes, Ack, IsQ}
-use Rattle.promise.specs.View.{View, Evidence, seen, told, Open, Mute, MayPrepare, Decided, MayAbort, MayCommit, nobody, Inv}
+use Rattle.promise.specs.Classes.{Protocol, Kind, Yes, No, Ack, IsQ}
+use Rattle.promise.specs.View.{View, Evidence, seen, told, Open, Muted, Mute, MayPrepare, Decided, MayAbort, MayCommit, nobody, Inv}
 
 -- b is a with fewer running sites and live messages, the same states and leaders, and the same votes but for those of sites that stop in q.
 pub record Less (b a : View) : Type 0 where
+  pub by : a .by ≡ b .by
+  pub absent : (i : ℕ) → b .absent i → a .absent i
   pub st : (i : ℕ) → a .st i ≡ b .st i
   pub ld : (i : ℕ) → a .ld i ≡ b .ld i
   pub runs : (i : ℕ) → b .runs i → a .runs i
@@ -18,11 +20,11 @@ pub record Less (b a : View) : Type 0 where
 
 module _ (a b : View) (h : Less b a) where
   -- b, written with the states and leaders of a
-  abbrev with-a : (ℕ → State) → (ℕ → ℕ) → View
-  with-a s l = record { runs = b .runs; st = s; ld = l; voted = b .voted; live = b .live }
+  abbrev with-a : Protocol → (ℕ → State) → (ℕ → ℕ) → View
+  with-a p s l = record { by = p; runs = b .runs; stopped = b .stopped; st = s; ld = l; voted = b .voted; absent = b .absent; live = b .live }
 
   abbrev m : View
-  m = with-a (a .st) (a .ld)
+  m = with-a (a .by) (a .st) (a .ld)
 
   less-evidence : {S : State → Type 0} {K : Kind → Type 0} → Evidence S K (a .st) (b .live) → Evidence S K (a .st) (a .live)
   less-evidence (seen i x) = seen i x
@@ -37,16 +39,15 @@ module _ (a b : View) (h : Less b a) where
 
   -- an exempt site runs no more, and gives no vote in stopping
   module _ (exempt : ℕ → Type 0) (out : (i : ℕ) → exempt i → b .runs i → ⊥) (dumb : (i : ℕ) → exempt i → b .voted i → a .voted i) where
-    less-mute : Mute a exempt → Mute m nobody
-    less-mute u =
+    less-muted : (k : ℕ) → Muted a exempt k → Muted m nobody k
+    less-muted k u =
         record {
-          site = u .site;
-          silent = λ x. u .silent (⊎-elim (λ y. y) (λ y. dumb (u .site) (u .past (y .0) (y .1)) x) (h .new (u .site) x));
-          past = λ r q. out (u .site) (u .past (h .runs (u .site) r) q) r;
+          silent = λ x. u .silent (⊎-elim (λ y. y) (λ y. dumb k (u .past (y .0) (y .1)) x) (h .new k x));
+          past = λ r q. out k (u .past (h .runs k r) q) r;
         }
 
-    less-prepare : MayPrepare a exempt → MayPrepare m nobody
-    less-prepare p = record { all = λ j. h .old j (p .all j); shut = λ j o. out j (p .shut j (less-open j o)) (o .0) }
+    less-mute : Mute a exempt → Mute m nobody
+    less-mute u = record { site = u .site; muted = less-muted (u .site) (u .muted) }
 
     less-abort : MayAbort a exempt → MayAbort m nobody
     less-abort p =
@@ -63,20 +64,21 @@ module _ (a b : View) (h : Less b a) where
         unvoted = λ j r q w. ⊎-elim (v .unvoted j (h .runs j r) q) (λ y. y .2 r) (h .new j w);
         waiting = λ j o w. h .old j (v .waiting j (less-open j o) w);
         yes = λ k j x. h .old k (v .yes k j (h .live Yes k j x));
+        no = λ k j x. less-muted nobody (λ i e. absurd e) (λ i e. absurd e) k (v .no k j (h .live No k j x));
         orders = λ κ k j o x r. v .orders κ k j o (h .live κ k j x) (h .runs k r);
         leader = λ k j x r. v .leader k j (h .live Ack j k x) (h .runs k r);
         follower = λ k j x r t. v .follower k j (h .live Ack j k x) (h .runs k r) (h .runs j t);
-        prepared = λ e. less-prepare nobody (λ i x. absurd x) (λ i x. absurd x) (v .prepared (less-evidence e));
+        prepared = λ e j. h .old j (v .prepared (less-evidence e) j);
         aborted = λ e. less-abort nobody (λ i x. absurd x) (λ i x. absurd x) (v .aborted (less-evidence e));
         committed = λ e. less-decided (v .committed (less-evidence e));
       }
 
   pub less : Inv a → Inv b
-  less v = subst Inv (λ i. with-a (fun-ext (h .st) i) (fun-ext (h .ld) i)) (less-m v)
+  less v = subst Inv (λ i. with-a (h .by i) (fun-ext (h .st) i) (fun-ext (h .ld) i)) (less-m v)
 
 -- Site k stops; the votes given are then w.
 abbrev pub stop : View → ℕ → (ℕ → Type 0) → View
-stop a k w = record { runs = λ i. a .runs i × (i ≢ k); st = a .st; ld = a .ld; voted = w; live = a .live }
+stop a k w = record { by = a .by; runs = λ i. a .runs i × (i ≢ k); stopped = λ i. a .stopped i ⊎ (i ≡ k); st = a .st; ld = a .ld; voted = w; absent = a .absent; live = a .live }
 
 -- the votes w are those of a, perhaps with that of a running site j in q
 pub record Votes (a : View) (j : ℕ) (w : ℕ → Type 0) : Type 0 where
@@ -87,6 +89,8 @@ module _ (a : View) (k : ℕ) (w : ℕ → Type 0) (r : a .runs k) (g : Votes a 
   pub stop-less : Less (stop a k w) a
   stop-less =
       record {
+        by = refl;
+        absent = λ i x. x;
         st = λ i. refl;
         ld = λ i. refl;
         runs = λ i x. x .0;
@@ -105,9 +109,6 @@ module _ (a : View) (k : ℕ) (w : ℕ → Type 0) (r : a .runs k) (g : Votes a 
   module _ (same : w k → a .voted k) where
     dumb : (i : ℕ) → i ≡ k → w i → a .voted i
     dumb i e x = rw e (same (rw e at x))
-
-    pub stop-prepare : MayPrepare a self → MayPrepare (stop a k w) nobody
-    stop-prepare = less-prepare a (stop a k w) stop-less self (λ i e x. x .1 e) dumb
 
     pub stop-abort : MayAbort a self → MayAbort (stop a k w) nobody
     stop-abort = less-abort a (stop a k w) stop-less self (λ i e x. x .1 e) dumb

@@ -8,6 +8,7 @@ pub mod RunAfter
 -- A run as agreement sees it, and the invariant of safety.
 pub mod Classes
 pub mod View
+pub mod First
 -- What keeps the invariant: less of everything; one site changed; one site's messages sent.
 pub mod Less
 pub mod Become
@@ -16,6 +17,9 @@ pub mod Send
 pub mod Does
 pub mod Fitting
 pub mod Safety
+pub mod Own
+pub mod Kept
+pub mod Learn
 -- The real run through that view: its steps are those steps, and its events keep the invariant, from fresh on.
 pub mod Words
 pub mod Seen
@@ -30,6 +34,9 @@ pub mod Potential
 pub mod Falling
 -- What running sites owe one another, and that a run with nothing but stops left has decided.
 pub mod Owed
+pub mod OwedCentral
+pub mod OwedPeers
+pub mod Owes
 pub mod Owing
 pub mod Stuck
 -- Runs that show that the promises are not empty and the exact bound is reached; what holds of every run from fresh; the promises.

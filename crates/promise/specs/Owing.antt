@@ -18,15 +18,16 @@ use Rattle.run.specs.declared.Ran.{Ran}
 use Rattle.run.specs.Run.{stoppedAt, freshRun, stoppedIn, takenIn}
 use Rattle.run.specs.Event.{refusedRun, delivered, eventOf}
 use Rattle.run.specs.After.{Tale, onward, told, opening, after}
-use Rattle.promise.specs.SetsMembers.{In, in-minus}
+use Rattle.promise.specs.SetsMembers.{In, in-minus, in-with-new}
 use Rattle.run.specs.Views.{Shape}
 use Rattle.promise.specs.RunViews.{recordOf, Runs, Out, sent-cases, sent-old, sent-new, taken-old, taken-gone, stopped-old}
 use Rattle.run.specs.SoundLaws.{sound-parts}
 use Rattle.run.specs.Happens.{Able, Acting}
 use Rattle.promise.specs.RunEvents.{running, stop-is, decide, decide-stop}
-use Rattle.promise.specs.Classes.{Kind, Start, Yes, No, MoveP, MoveW, Ack, Commit, Abort}
+use Rattle.promise.specs.Classes.{Kind, Start, Yes, No, MoveP, MoveW, Ack, Commit, Abort, Prepare, not-both}
 use Rattle.promise.specs.Does.{message}
-use Rattle.promise.specs.Owed.{Owed, After, owed-stopped, owed-step}
+use Rattle.promise.specs.Owed.{After}
+use Rattle.promise.specs.Owes.{Owes, owes-stopped, owes-step}
 use Rattle.promise.specs.Become.{by-site}
 use Rattle.promise.specs.Seen.{number, Recorded, viewOf, still-runs, stopped-view}
 use Rattle.promise.specs.Brings.{Delivers}
@@ -54,6 +55,7 @@ kind-in MoveW = (omega arith, omega arith)
 kind-in Ack = (omega arith, omega arith)
 kind-in Commit = (omega arith, omega arith)
 kind-in Abort = (omega arith, omega arith)
+kind-in Prepare = (omega arith, omega arith)
 
 -- ---- a step of site s
 
@@ -101,28 +103,32 @@ module _ (w : ℕ → Type 0) (r : Run) (h : Held w r) (s : ℕ) (t : Step) (al 
   after-whole : After (viewOf w r) (viewOf w q) s (λ i. In (d .to) i) (d .site .state) (d .site .leader) (y .κ) (y .uses)
   after-whole =
       record {
+        by = refl;
         runs = λ i x. record { least = x .least; most = x .most; up = x .up };
+        stopped = λ i x. x;
         st = ap (λ (a : Record). a .state) new;
         ld = ap (λ (a : Record). a .leader) new;
         st-other = λ i ne. ap (λ (a : Record). a .state) (still i ne);
         ld-other = λ i ne. ap (λ (a : Record). a .leader) (still i ne);
         stay = stay;
         come = come;
-        only = λ k i x. ⊎-elim (λ z. inl z) (λ z. inr (z .0, z .1)) (whole-less w r h s t al w .live Start k i x);
+        only = λ c k i x. whole-less w r h s t al w .live c k i x;
         gone = gone;
       }
 
-  pub whole-owed : Owed (viewOf w r) → Owed (viewOf w (eventOf r (Act s t) .run))
+  pub whole-owed : Owes (viewOf w r) → Owes (viewOf w (eventOf r (Act s t) .run))
   whole-owed o =
-      subst (λ (a : Run). Owed (viewOf w a)) (sym whole-run)
-      (owed-step (viewOf w r) s (λ i. In (d .to) i) (h .inv) (running (al .able)) (viewOf w q) (d .site .state) (d .site .leader) (y .κ) (y .uses) after-whole (y .act) o)
+      subst (λ (a : Run). Owes (viewOf w a)) (sym whole-run)
+      (owes-step (viewOf w r) (viewOf w q) s (λ i. In (d .to) i) (h .inv) (running (al .able)) (d .site .state) (d .site .leader) (y .κ) (y .uses) after-whole (y .act) o)
 
-  pub part-owed : (x : ℕ) → Owed (viewOf w r) → Owed (viewOf w (eventOf r (Cut s t x) .run))
+  pub part-owed : (x : ℕ) → Owes (viewOf w r) → Owes (viewOf w (eventOf r (Cut s t x) .run))
   part-owed x o =
-      subst (λ (a : Run). Owed (viewOf w a)) (sym (part-run x))
-      (owed-stopped (viewOf w r) (viewOf w (partAt r s t x)) s
+      subst (λ (a : Run). Owes (viewOf w a)) (sym (part-run x))
+      (owes-stopped (viewOf w r) (viewOf w (partAt r s t x)) s
       (record {
+        by = refl;
         runs = λ i. still-runs r s most i (partAt r s t x .net);
+        stopped = in-with-new (r .stopped) s s (record { least = running (al .able) .least; most = most }) refl;
         st = λ i. refl;
         ld = λ i. refl;
         stay = λ c k i ne. ⊎-elim (λ z. inl (sent-old (stoppedIn (r .net) s) (kindAt r s t) s (leaving r s t x) (length-map (r .net) _ ∙ h .shape .net) (number c) k i (stopped-old (r .net) s (number c) k i z ne))) (λ z. inr z);
@@ -132,23 +138,30 @@ module _ (w : ℕ → Type 0) (r : Run) (h : Held w r) (s : ℕ) (t : Step) (al 
 -- ---- every event
 
 -- votes have no part in what is owed
-pub owed-votes : (w w′ : ℕ → Type 0) (r : Run) → Owed (viewOf w r) → Owed (viewOf w′ r)
-owed-votes w w′ r o = record { below = o .below; left = o .left; due = o .due }
+pub owed-votes : (w w′ : ℕ → Type 0) (r : Run) → Owes (viewOf w r) → Owes (viewOf w′ r)
+owed-votes w w′ r o =
+    record {
+      shared = record { below = o .shared .below; left = o .shared .left; due = o .shared .due };
+      central = λ e. record { asks = o .central e .asks };
+      peers = λ e. absurd (not-both refl e);
+    }
 
-module _ (w : ℕ → Type 0) (r : Run) (h : Held w r) (o : Owed (viewOf w r)) where
-  same : (e : Event) (g : ℕ) → eventOf r e ≡ refusedRun r g → Owed (viewOf w (eventOf r e .run))
-  same e g q = subst (λ (a : Ran). Owed (viewOf w (a .run))) (sym q) o
+module _ (w : ℕ → Type 0) (r : Run) (h : Held w r) (o : Owes (viewOf w r)) where
+  same : (e : Event) (g : ℕ) → eventOf r e ≡ refusedRun r g → Owes (viewOf w (eventOf r e .run))
+  same e g q = subst (λ (a : Ran). Owes (viewOf w (a .run))) (sym q) o
 
-  pub event-owed : (e : Event) → Owed (viewOf w (eventOf r e .run))
+  pub event-owed : (e : Event) → Owes (viewOf w (eventOf r e .run))
   event-owed (Act s t) = ⊎-elim (λ al. whole-owed w r h s t al o) (λ n. same (Act s t) (n .ground) (n .whole)) (decide r s t)
   event-owed (Cut s t x) = ⊎-elim (λ al. part-owed w r h s t al x o) (λ n. same (Cut s t x) (n .ground) (n .part x)) (decide r s t)
   event-owed (Stop s) = ⊎-elim halted (λ n. same (Stop s) (n .ground) (n .done)) (decide-stop r s)
     where
-      halted : Able r s → Owed (viewOf w (eventOf r (Stop s) .run))
+      halted : Able r s → Owes (viewOf w (eventOf r (Stop s) .run))
       halted n =
-          subst (λ (a : Ran). Owed (viewOf w (a .run))) (sym (stop-is n))
-          (owed-stopped (viewOf w r) (viewOf w (stoppedAt r s)) s
+          subst (λ (a : Ran). Owes (viewOf w (a .run))) (sym (stop-is n))
+          (owes-stopped (viewOf w r) (viewOf w (stoppedAt r s)) s
           (record {
+            by = refl;
+            stopped = unfold stoppedAt in in-with-new (r .stopped) s s (record { least = running n .least; most = omega (arith, running n .most, sound-parts r (h .shape) (n .sound) .most) }) refl;
             runs = stopped-view r s (omega (arith, running n .most, sound-parts r (h .shape) (n .sound) .most)) w w .runs;
             st = λ i. unfold stoppedAt in refl;
             ld = λ i. unfold stoppedAt in refl;
@@ -156,7 +169,7 @@ module _ (w : ℕ → Type 0) (r : Run) (h : Held w r) (o : Owed (viewOf w r)) w
             only = λ k i ne. stopped-view r s (omega (arith, running n .most, sound-parts r (h .shape) (n .sound) .most)) w w .live Start k i;
           }) o)
 
-pub told-owed : (w : ℕ → Type 0) (t : Tale) (es : List Event) → Held w (t .run) → Owed (viewOf w (t .run)) → Owed (viewOf w (told t es .run))
+pub told-owed : (w : ℕ → Type 0) (t : Tale) (es : List Event) → Held w (t .run) → Owes (viewOf w (t .run)) → Owes (viewOf w (told t es .run))
 unfolding onward
 told-owed w t [] h o = o
 told-owed w t (e ∷ es) h o =
@@ -165,21 +178,26 @@ told-owed w t (e ∷ es) h o =
 
 -- ---- from fresh
 
-pub fresh-owed : (n : ℕ) → Owed (viewOf nothing (freshRun n))
+pub fresh-owed : (n : ℕ) → Owes (viewOf nothing (freshRun n))
 fresh-owed n =
     record {
-      below = λ j i l x. absurd (omega (arith, follows j, x .least));
-      left = λ k x e ne. absurd (ne (omega (arith, follows k, x .least)));
-      due = λ k j x y ne.
+      shared =
           record {
-            asked = λ _ w. absurd (rw (in-q k) at w);
-            unasked = λ _ _. rw (in-q j) tt;
-            asking = λ _ w. absurd (rw (in-q k) at w);
-            begun = λ _ z. absurd (no-live n Start k j z);
-            moved = λ _ w. absurd (rw (in-q k) at w);
-            aborts = λ _ w. absurd (rw (in-q k) at w);
-            commits = λ _ w. absurd (rw (in-q k) at w);
+            below = λ j i l x. absurd (omega (arith, follows j, x .least));
+            left = λ k x e q. e .1 (omega (arith, follows k, x .least, e .0), rw (in-q k) tt);
+            due = λ k j x y ne. record { moved = λ _ w. absurd (rw (in-q k) at w); aborts = λ _ w. absurd (rw (in-q k) at w); commits = λ _ w. absurd (rw (in-q k) at w) };
           };
+      central = λ _.
+          record {
+            asks = λ k j x y ne.
+                record {
+                  asked = λ _ w. absurd (rw (in-q k) at w);
+                  unasked = λ _ _. rw (in-q j) tt;
+                  asking = λ _ w. absurd (rw (in-q k) at w);
+                  begun = λ _ z. absurd (no-live n Start k j z);
+                };
+          };
+      peers = λ e. absurd (not-both refl e);
     }
   where
     in-q : (i : ℕ) → recordOf (freshRun n .sites) i .state ≡ Q
@@ -188,7 +206,7 @@ fresh-owed n =
     follows : (i : ℕ) → recordOf (freshRun n .sites) i .leader ≤ 1
     follows = each-fresh n (λ x _. x .leader ≤ 1) (λ _ _. omega arith) (λ _. omega arith)
 
-pub owed-after : (n : ℕ) → 2 ≤ n → n ≤ 8 → (es : List Event) → Owed (viewOf nothing (after n es .run))
+pub owed-after : (n : ℕ) → 2 ≤ n → n ≤ 8 → (es : List Event) → Owes (viewOf nothing (after n es .run))
 unfolding after opening
 owed-after n p q es =
-    told-owed nothing (opening n) es (start-held n p q) (subst (λ (r : Run). Owed (viewOf nothing r)) (sym (fresh-is n p q)) (fresh-owed n))
+    told-owed nothing (opening n) es (start-held n p q) (subst (λ (r : Run). Owes (viewOf nothing r)) (sym (fresh-is n p q)) (fresh-owed n))

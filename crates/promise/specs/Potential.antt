@@ -23,7 +23,8 @@ use Rattle.promise.specs.SetsMembers.{In, without-in}
 use Rattle.promise.specs.RunViews.{recordOf, Out, out-placed}
 use Rattle.promise.specs.Count.{by-size, sum, sum-le, sum-lt, sum-at, members-union, members-le, members-without}
 use Rattle.promise.specs.Brings.{heavy, weigh}
-use Rattle.promise.specs.Measure.{own}
+use Rattle.promise.specs.Classes.{Central}
+use Rattle.promise.specs.Measure.{firstly, own}
 
 -- ---- messages
 
@@ -101,12 +102,12 @@ messages-stopped net j = sum-le 72 (weighAt (stoppedIn net j)) (weighAt net) (λ
 -- ---- what each running site may still do
 
 pub partOf : ℕ → ℕ → Record → ℕ → ℕ
-partOf S n x i = cond (has S i) 0 (1 + own n i (x .state) (x .leader))
+partOf S n x i = cond (has S i) 0 (1 + own Central n i (x .state) (x .leader))
 
 pub parts : Run → ℕ
 parts r = sum (r .n) (λ i. partOf (r .stopped) (r .n) (recordOf (r .sites) (suc i)) (suc i))
 
-pub part-runs : (S n : ℕ) (x : Record) (i : ℕ) → has S i ≡ false → partOf S n x i ≡ 1 + own n i (x .state) (x .leader)
+pub part-runs : (S n : ℕ) (x : Record) (i : ℕ) → has S i ≡ false → partOf S n x i ≡ 1 + own Central n i (x .state) (x .leader)
 unfolding partOf
 part-runs S n x i h = rw h refl
 
@@ -231,5 +232,5 @@ potential-is r = refl
 
 -- of a fresh run
 pub fresh-potential : (n : ℕ) → 2 ≤ n → n ≤ 8 → potential (freshRun n) ≡ 2 * n ^ 2 + 3 * n - 1
-unfolding potential messages parts partOf pairs pairAt own sum members has bit isSite
+unfolding potential messages parts partOf pairs pairAt own firstly sum members has bit isSite
 fresh-potential = by-size (λ n. potential (freshRun n) ≡ 2 * n ^ 2 + 3 * n - 1) refl refl refl refl refl refl refl

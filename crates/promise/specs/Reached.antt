@@ -62,7 +62,7 @@ module _ (n : ℕ) (least : 2 ≤ n) (most : n ≤ 8) (es : List Event) where
   pub vote : (i : ℕ) → IsSite n i → stateOf r i ≡ C → (j : ℕ) → IsSite n j → Voted (freshOf n .run) es j
   vote i p c j q =
       ⊎-elim (λ x. absurd x) (λ x. x)
-      (held .inv .prepared (seen i (rw (in-state i C p c) tt)) .all j (q .0) (rw (sites-after n least most es) (q .1)))
+      (held .inv .prepared (seen i (rw (in-state i C p c) tt)) j (q .0) (rw (sites-after n least most es) (q .1)))
 
   pub peace : (e : Event) → eventOf r e .outcome ≢ Refused 6
   peace e = at-peace votes r held e

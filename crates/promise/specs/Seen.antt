@@ -16,7 +16,7 @@ use Rattle.sets.specs.Truths.{clash, fails}
 use Rattle.promise.specs.SetsMembers.{In, in-with, in-with-new}
 use Rattle.run.specs.Views.{Shape}
 use Rattle.promise.specs.RunViews.{recordOf, replaced, others, Runs, Out, sent-cases, stopped-less}
-use Rattle.promise.specs.Classes.{Kind, Start, Yes, No, MoveP, MoveW, Ack, Commit, Abort, byKind}
+use Rattle.promise.specs.Classes.{Kind, Start, Yes, No, MoveP, MoveW, Ack, Commit, Abort, Prepare, Central, byKind}
 use Rattle.promise.specs.View.{View}
 use Rattle.promise.specs.Less.{Less, stop}
 use Rattle.promise.specs.Become.{by-site, upd, upd-same, upd-other, become}
@@ -32,9 +32,10 @@ number MoveW = 5
 number Ack = 6
 number Commit = 7
 number Abort = 8
+number Prepare = 9
 
 kindOf : ℕ → Kind
-kindOf k = cond (eqb k 1) Start (cond (eqb k 2) Yes (cond (eqb k 3) No (cond (eqb k 4) MoveP (cond (eqb k 5) MoveW (cond (eqb k 6) Ack (cond (eqb k 7) Commit Abort))))))
+kindOf k = cond (eqb k 1) Start (cond (eqb k 2) Yes (cond (eqb k 3) No (cond (eqb k 4) MoveP (cond (eqb k 5) MoveW (cond (eqb k 6) Ack (cond (eqb k 7) Commit (cond (eqb k 8) Abort Prepare)))))))
 
 kind-of : (κ : Kind) → kindOf (number κ) ≡ κ
 unfolding kindOf
@@ -46,13 +47,14 @@ kind-of MoveW = refl
 kind-of Ack = refl
 kind-of Commit = refl
 kind-of Abort = refl
+kind-of Prepare = refl
 
 pub same-kind : (κ κ′ : Kind) → number κ ≡ number κ′ → κ ≡ κ′
 same-kind κ κ′ e = sym (kind-of κ) ∙ ap kindOf e ∙ kind-of κ′
 
 -- A record holds a Yes, No or Ack of k.
 abbrev pub Recorded : Kind → Record → ℕ → Type 0
-Recorded κ x k = byKind ⊥ (In (x .yes) k) (In (x .no) k) ⊥ ⊥ (In (x .acked) k) ⊥ ⊥ κ
+Recorded κ x k = byKind ⊥ (In (x .yes) k) (In (x .no) k) ⊥ ⊥ (In (x .acked) k) ⊥ ⊥ ⊥ κ
 
 -- Nothing else is recorded.
 pub by-recorded : (M : Kind → Type 0) (x : Record) (k : ℕ) → (In (x .yes) k → M Yes) → (In (x .no) k → M No) → (In (x .acked) k → M Ack) → (κ : Kind) → Recorded κ x k → M κ
@@ -64,15 +66,19 @@ by-recorded M x k y n a MoveP h = absurd h
 by-recorded M x k y n a MoveW h = absurd h
 by-recorded M x k y n a Commit h = absurd h
 by-recorded M x k y n a Abort h = absurd h
+by-recorded M x k y n a Prepare h = absurd h
 
 -- The view of a run, with w for the votes given. Numbers that are no site's count as having voted.
 abbrev pub viewOf : (ℕ → Type 0) → Run → View
 viewOf w r =
     record {
+      by = Central;
       runs = Runs r;
+      stopped = λ i. In (r .stopped) i;
       st = λ i. recordOf (r .sites) i .state;
       ld = λ i. recordOf (r .sites) i .leader;
       voted = λ i. 1 ≤ i → i ≤ r .n → w i;
+      absent = λ i. 1 ≤ i → i ≤ r .n → ⊥;
       live = λ κ k i. Out (r .net) (number κ) k i ⊎ Recorded κ (recordOf (r .sites) i) k;
     }
 
@@ -117,6 +123,8 @@ module _ (w w′ : ℕ → Type 0) (r : Run) (shape : Shape r) (net : List ℕ) 
   pub wholly-less : Less (viewOf w′ wholly) (send (become (viewOf w r) j (x .state) (x .leader) (viewOf w′ r .voted)) κ j T)
   wholly-less =
       record {
+        by = refl;
+        absent = λ i x. x;
         st = changed (λ x. x .state);
         ld = changed (λ x. x .leader);
         runs = λ i y. record { least = y .least; most = y .most; up = y .up };
@@ -137,6 +145,8 @@ module _ (r : Run) (j : ℕ) (j8 : j ≤ 8) where
   unfolding stoppedAt
   stopped-view w w′ =
       record {
+        by = refl;
+        absent = λ i x. x;
         st = λ i. refl;
         ld = λ i. refl;
         runs = λ i. still-runs i (stoppedIn (r .net) j);
@@ -159,6 +169,8 @@ module _ (w w′ : ℕ → Type 0) (r : Run) (shape : Shape r) (j : ℕ) (j1 : 1
   pub partly-less : Less (viewOf w′ partly) (send (stop (viewOf w r) j (viewOf w′ r .voted)) κ j T)
   partly-less =
       record {
+        by = refl;
+        absent = λ i x. x;
         st = λ i. refl;
         ld = λ i. refl;
         runs = λ i. still-runs r j j8 i (partly .net);

@@ -4,12 +4,12 @@ use Prim.Native.Nat.{ℕ, _<_}
 use mathlib.Core.Path.{_≡_, sym, subst}
 use mathlib.Core.Logic.{_⊎_, inl, inr, ⊎-elim}
 use Rattle.site.specs.declared.State.{State}
-use Rattle.promise.specs.Classes.{Kind, Yes, MoveP, Ack, IsA, IsC, PC, Order, Prepares, Yields, IsYes, IsAck, IsCommit, IsAbort, atOrder, Stands, Relies, prepares-order, yields-order, pc-not-qwa, pc-not-wa}
-use Rattle.promise.specs.View.{View, Evidence, seen, told, EP, EA, EC, Lead, Lowest, Mute, MayPrepare, Decided, MayAbort, MayCommit, Safe, nobody, Inv}
+use Rattle.promise.specs.Classes.{Kind, Yes, No, MoveP, Ack, IsA, IsC, PC, Order, Prepares, Yields, IsYes, IsNo, IsAck, IsCommit, IsAbort, atOrder, Stands, Relies, prepares-order, yields-order, pc-not-qwa, pc-not-wa}
+use Rattle.promise.specs.View.{View, Evidence, seen, told, EP, EA, EC, Lead, Lowest, Muted, Mute, MayPrepare, Decided, MayAbort, MayCommit, Safe, nobody, Inv}
 
 -- Messages of kind κ from k to the sites of R, beside the live ones.
 abbrev pub send : View → Kind → ℕ → (ℕ → Type 0) → View
-send a κ k R = record { runs = a .runs; st = a .st; ld = a .ld; voted = a .voted; live = λ κ′ i j. a .live κ′ i j ⊎ ((κ ≡ κ′) × (k ≡ i) × R j) }
+send a κ k R = record { by = a .by; runs = a .runs; stopped = a .stopped; st = a .st; ld = a .ld; voted = a .voted; absent = a .absent; live = λ κ′ i j. a .live κ′ i j ⊎ ((κ ≡ κ′) × (k ≡ i) × R j) }
 
 -- What messages of kind κ from k to the sites of R have to respect.
 pub record May (a : View) (κ : Kind) (k : ℕ) (R : ℕ → Type 0) : Type 0 where
@@ -20,6 +20,8 @@ pub record May (a : View) (κ : Kind) (k : ℕ) (R : ℕ → Type 0) : Type 0 wh
   pub ready : Order κ → Safe a (atOrder κ) nobody
   -- a Yes comes from a site that has voted
   pub yes : IsYes κ → (j : ℕ) → R j → a .voted k
+  -- a No comes from a site that will never have voted
+  pub no : IsNo κ → Muted a nobody k
   -- an acknowledgement goes to a lower leader, which can rely on it
   pub ack : IsAck κ → (i : ℕ) → R i → (i < k) × (a .runs i → Lead a i) × (a .runs i → a .runs k → Relies (a .st i) i (a .st k) (a .ld k))
 
@@ -43,11 +45,11 @@ module _ (a : View) (κ : Kind) (k : ℕ) (R : ℕ → Type 0) (v : Inv a) (m : 
   new S K (told κ′ i j c (inr x)) = inr (subst K (sym (x .0)) c)
 
   -- what is safe with the evidence and the live messages that there are is safe with the new ones
-  prepare : MayPrepare a nobody → MayPrepare b nobody
-  prepare p = record { all = p .all; shut = p .shut }
+  muted : (k : ℕ) → Muted a nobody k → Muted b nobody k
+  muted k u = record { silent = u .silent; past = u .past }
 
   mute : Mute a nobody → Mute b nobody
-  mute u = record { site = u .site; silent = u .silent; past = u .past }
+  mute u = record { site = u .site; muted = muted (u .site) (u .muted) }
 
   decided : {S : State → Type 0} {κ′ : Kind} {E F : Type 0} → (κ ≡ κ′ → ⊥) → (F → ⊥) → Decided a S κ′ E → Decided b S κ′ F
   decided {κ′ = κ′} n x p = record { each = p .each; deaf = msg κ′ (λ i j. a .runs j → i < a .ld j) (p .deaf) (λ e. absurd (n e)); apart = x }
@@ -61,9 +63,9 @@ module _ (a : View) (κ : Kind) (k : ℕ) (R : ℕ → Type 0) (v : Inv a) (m : 
   beside-y : EC a → Yields κ → ⊥
   beside-y e c = pc-not-wa (atOrder κ) (m .ready (yields-order κ c) .beside-c e) c
 
-  prepared-after : EP a ⊎ Prepares κ → MayPrepare b nobody
-  prepared-after (inl e) = prepare (v .prepared e)
-  prepared-after (inr c) = prepare (m .ready (prepares-order κ c) .prepared c)
+  prepared-after : EP a ⊎ Prepares κ → MayPrepare b
+  prepared-after (inl e) = v .prepared e
+  prepared-after (inr c) = m .ready (prepares-order κ c) .prepared c
 
   aborted-after : EA a ⊎ IsAbort κ → MayAbort b nobody
   aborted-after (inl e) =
@@ -90,6 +92,7 @@ module _ (a : View) (κ : Kind) (k : ℕ) (R : ℕ → Type 0) (v : Inv a) (m : 
         unvoted = v .unvoted;
         waiting = v .waiting;
         yes = msg Yes (λ i j. a .voted i) (v .yes) (λ e. m .yes (rw e tt));
+        no = msg No (λ i j. Muted b nobody i) (λ i j x. muted i (v .no i j x)) (λ e j r. muted k (m .no (rw e tt)));
         orders = ord (λ κ i j. a .runs i → Lead a i × Stands κ (a .st i)) (v .orders) (λ o j r. m .orders o);
         leader = λ i j. msg Ack (λ j i. a .runs i → Lead a i) (λ j i. v .leader i j) (λ e i r. m .ack (rw e tt) i r .1) j i;
         follower = λ i j. msg Ack (λ j i. a .runs i → a .runs j → Relies (a .st i) i (a .st j) (a .ld j)) (λ j i. v .follower i j) (λ e i r. m .ack (rw e tt) i r .2) j i;

@@ -184,10 +184,10 @@ module _ (w : ℕ → Type 0) (r : Run) (g : Sound r) (u : Inv (viewOf w r)) (j 
 
   begun-is : (v : Vote) → j ≡ 1 → a .st j ≡ Q → M (step.Begin v) (begun v s)
   begun-is vote.Yes n q =
-      own-step (step.Begin vote.Yes) Start (inState s W) (λ K i h. h) (λ o h. h) (same-l (does.begin-yes n q (leads-itself n) (everyone (none-below n)))) (holds-same W (s .leader))
+      own-step (step.Begin vote.Yes) Start (inState s W) (λ K i h. h) (λ o h. h) (same-l (does.central refl (does.begin-yes n q (leads-itself n) (everyone (none-below n))))) (holds-same W (s .leader))
       (record { gives = λ _. (tt, refl); voices = λ _ _. (tt, rw q tt); leaves = λ h. absurd h })
   begun-is vote.No n q =
-      own-step (step.Begin vote.No) Abort (inState s A) (λ K i h. h) (λ o h. h) (same-l (does.begin-no n q (leads-itself n) (everyone (none-below n)))) (holds-same A (s .leader))
+      own-step (step.Begin vote.No) Abort (inState s A) (λ K i h. h) (λ o h. h) (same-l (does.central refl (does.begin-no n q (leads-itself n) (everyone (none-below n))))) (holds-same A (s .leader))
       (mute (step.Begin vote.No) (begun vote.No s) Abort (λ h. h) (λ h. absurd h))
 
   begins : (v : Vote) → M (step.Begin v) (beginOf s v)
@@ -258,8 +258,8 @@ module _ (w : ℕ → Type 0) (r : Run) (g : Sound r) (u : Inv (viewOf w r)) (j 
 
     voted-is : (v : Vote) → a .ld j ≤ 1 → a .st j ≡ Q → M (step.Start from v) (voted v s)
     voted-is vote.Yes l q =
-        answers vote.Yes Yes W (does.start-yes l not-first q first-start to-first) (record { gives = λ _. (tt, refl); voices = λ _ _. (tt, rw q tt); leaves = λ _ i h. (tt, weight-in 1 i h) })
-    voted-is vote.No l q = answers vote.No No A (does.start-no l not-first q first-start to-first) (mute (step.Start from vote.No) (voted vote.No s) No (λ h. h) (λ h. absurd h))
+        answers vote.Yes Yes W (does.central refl (does.start-yes l not-first q first-start to-first)) (record { gives = λ _. (tt, refl); voices = λ _ _. (tt, rw q tt); leaves = λ _ i h. (tt, weight-in 1 i h) })
+    voted-is vote.No l q = answers vote.No No A (does.central refl (does.start-no l not-first q first-start to-first)) (mute (step.Start from vote.No) (voted vote.No s) No (λ h. h) (λ h. absurd h))
 
     starts : (v : Vote) → M (step.Start from v) (startOf s from v)
     unfolding startOf
@@ -267,7 +267,7 @@ module _ (w : ℕ → Type 0) (r : Run) (g : Sound r) (u : Inv (viewOf w r)) (j 
         by-cond (M (step.Start from v)) (not (ltb from (s .leader)) && isQ (s .state)) (voted v s) (passed s)
         (λ e. voted-is v (omega (arith, ld-is, start-ends .0, ltb-false from (s .leader) (not-true (ltb from (s .leader)) (and-l (not (ltb from (s .leader))) (isQ (s .state)) e))))
         (st-is ∙ is-q (s .state) (and-r (not (ltb from (s .leader))) (isQ (s .state)) e)))
-        (λ e. quietly (step.Start from v) (passed s) (message Start from) (same-sl (does.passed (idle e) in-none)) in-none (holds-same (s .state) (s .leader)) (brings-start v _) (λ _. no-pass))
+        (λ e. quietly (step.Start from v) (passed s) (message Start from) (same-sl (does.shared (does.passed (idle e) in-none))) in-none (holds-same (s .state) (s .leader)) (brings-start v _) (λ _. no-pass))
       where
         idle : (not (ltb from (s .leader)) && isQ (s .state)) ≡ false → (from < a .ld j) ⊎ (IsQ (a .st j) → ⊥)
         idle e =
@@ -280,12 +280,12 @@ module _ (w : ℕ → Type 0) (r : Run) (g : Sound r) (u : Inv (viewOf w r)) (j 
     -- a message without effect
     passes : (κ : Kind) → Idle a j κ from → Stepped (step.Deliver (number κ) from) (passed s)
     passes κ i =
-        quietly (step.Deliver (number κ) from) (passed s) (message κ from) (same-sl (does.passed i in-none)) in-none (holds-same (s .state) (s .leader)) (brings κ from (passed s)) (λ y. absurd y)
+        quietly (step.Deliver (number κ) from) (passed s) (message κ from) (same-sl (does.shared (does.passed i in-none))) in-none (holds-same (s .state) (s .leader)) (brings κ from (passed s)) (λ y. absurd y)
 
     -- a Yes, No or Ack recorded
     hears : (κ : Kind) → Answer κ → Out (r .net) (number κ) from j → Stepped (step.Deliver (number κ) from) (taken (hearing κ s from) 0 0)
     hears κ o m =
-        quietly (step.Deliver (number κ) from) (taken (hearing κ s from) 0 0) notes (same-sl (does.noted in-none)) in-none
+        quietly (step.Deliver (number κ) from) (taken (hearing κ s from) 0 0) notes (same-sl (does.shared (does.noted in-none))) in-none
         (record {
           heard = λ c i h. ⊎-elim (same-heard c i) (λ e. inl (subst (λ (c : Kind). Out (r .net) (number c) i j) (e .0) (rw (e .1) m))) (hearing-cases κ s from c i h);
           kept = hearing-kept κ s from;
@@ -386,20 +386,20 @@ module _ (w : ℕ → Type 0) (r : Run) (g : Sound r) (u : Inv (viewOf w r)) (j 
       move-p m = obeys MoveP below (λ h. go (s .state) refl h)
         where
           go : (q : State) → s .state ≡ q → s .leader ≤ from → M (step.Deliver 4 from) (obeyed (orderAt 4 q) s 4 from)
-          go Q e h = absurd (u .unvoted j x (rw (st-is ∙ e) tt) (u .prepared (told-by MoveP from j tt (inl m)) .all j))
-          go W e h = acknowledges MoveP P (does.move-p (at .least) (up h) (inl m) (st-is ∙ e) to-sender)
-          go P e h = acknowledges MoveP P (does.stay-p (at .least) (up h) (inl m) (st-is ∙ e) tt to-sender)
+          go Q e h = absurd (u .unvoted j x (rw (st-is ∙ e) tt) (u .prepared (told-by MoveP from j tt (inl m)) j))
+          go W e h = acknowledges MoveP P (does.shared (does.move-p (at .least) (up h) (inl m) (st-is ∙ e) to-sender))
+          go P e h = acknowledges MoveP P (does.shared (does.stay-p (at .least) (up h) (inl m) (st-is ∙ e) tt to-sender))
           go A e h = absurd (not-below h (u .aborted (seen-at j (rw (st-is ∙ e) tt)) .decided .deaf from j (inl m) x))
-          go C e h = acknowledges MoveP C (does.stay-p (at .least) (up h) (inl m) (st-is ∙ e) tt to-sender)
+          go C e h = acknowledges MoveP C (does.shared (does.stay-p (at .least) (up h) (inl m) (st-is ∙ e) tt to-sender))
 
       move-w : Out (r .net) 5 from j → M (step.Deliver 5 from) (obeyOf s 5 from)
       move-w m = obeys MoveW below (λ h. go (s .state) refl h)
         where
           go : (q : State) → s .state ≡ q → s .leader ≤ from → M (step.Deliver 5 from) (obeyed (orderAt 5 q) s 5 from)
-          go Q e h = acknowledges MoveW W (does.move-w (at .least) (up h) (inl m) (rw (st-is ∙ e) tt) to-sender)
-          go W e h = acknowledges MoveW W (does.move-w (at .least) (up h) (inl m) (rw (st-is ∙ e) tt) to-sender)
-          go P e h = acknowledges MoveW W (does.move-w (at .least) (up h) (inl m) (rw (st-is ∙ e) tt) to-sender)
-          go A e h = acknowledges MoveW A (does.stay-w (at .least) (up h) (inl m) (st-is ∙ e) to-sender)
+          go Q e h = acknowledges MoveW W (does.shared (does.move-w (at .least) (up h) (inl m) (rw (st-is ∙ e) tt) to-sender))
+          go W e h = acknowledges MoveW W (does.shared (does.move-w (at .least) (up h) (inl m) (rw (st-is ∙ e) tt) to-sender))
+          go P e h = acknowledges MoveW W (does.shared (does.move-w (at .least) (up h) (inl m) (rw (st-is ∙ e) tt) to-sender))
+          go A e h = acknowledges MoveW A (does.shared (does.stay-w (at .least) (up h) (inl m) (st-is ∙ e) to-sender))
           go C e h = absurd (not-below h (u .committed (seen-at j (rw (st-is ∙ e) tt)) .deaf from j (inl m) x))
 
       commit : Out (r .net) 7 from j → M (step.Deliver 7 from) (obeyOf s 7 from)
@@ -411,9 +411,9 @@ module _ (w : ℕ → Type 0) (r : Run) (g : Sound r) (u : Inv (viewOf w r)) (j 
           go : (q : State) → s .state ≡ q → s .leader ≤ from → M (step.Deliver 7 from) (obeyed (orderAt 7 q) s 7 from)
           go Q e h = absurd (rw (st-is ∙ e) at ready)
           go W e h = absurd (rw (st-is ∙ e) at ready)
-          go P e h = decides Commit C Taken (does.commit (at .least) (up h) (inl m) in-none)
+          go P e h = decides Commit C Taken (does.shared (does.commit (at .least) (up h) (inl m) in-none))
           go A e h = absurd (rw (st-is ∙ e) at ready)
-          go C e h = decides-again Commit C e (does.commit (at .least) (up h) (inl m) in-none)
+          go C e h = decides-again Commit C e (does.shared (does.commit (at .least) (up h) (inl m) in-none))
 
       abort : Out (r .net) 8 from j → M (step.Deliver 8 from) (obeyOf s 8 from)
       abort m = obeys Abort below (λ h. go (s .state) refl h)
@@ -422,10 +422,10 @@ module _ (w : ℕ → Type 0) (r : Run) (g : Sound r) (u : Inv (viewOf w r)) (j 
           unready = u .aborted (told-by Abort from j refl (inl m)) .decided .each j x
 
           go : (q : State) → s .state ≡ q → s .leader ≤ from → M (step.Deliver 8 from) (obeyed (orderAt 8 q) s 8 from)
-          go Q e h = decides Abort A Taken (does.abort (at .least) (up h) (inl m) in-none)
-          go W e h = decides Abort A Taken (does.abort (at .least) (up h) (inl m) in-none)
+          go Q e h = decides Abort A Taken (does.shared (does.abort (at .least) (up h) (inl m) in-none))
+          go W e h = decides Abort A Taken (does.shared (does.abort (at .least) (up h) (inl m) in-none))
           go P e h = absurd (rw (st-is ∙ e) at unready)
-          go A e h = decides-again Abort A e (does.abort (at .least) (up h) (inl m) in-none)
+          go A e h = decides-again Abort A e (does.shared (does.abort (at .least) (up h) (inl m) in-none))
           go C e h = absurd (rw (st-is ∙ e) at unready)
 
   named : (i : ℕ) → inRun s i ≡ true → Site i
@@ -493,9 +493,9 @@ module _ (w : ℕ → Type 0) (r : Run) (g : Sound r) (u : Inv (viewOf w r)) (j 
   unfolding noticeOf
   notices o at-o =
       by-cond (M (step.Notice o)) (has (s .known) o) (passed s) (taken (knowing s (withSite (s .known) o)) 0 0)
-      (λ e. quietly (step.Notice o) (passed s) notes (same-sl (does.noted in-none)) in-none (holds-same (s .state) (s .leader))
+      (λ e. quietly (step.Notice o) (passed s) notes (same-sl (does.shared (does.noted in-none))) in-none (holds-same (s .state) (s .leader))
       (record { used = λ c i h. absurd h; brought = λ c i h. absurd (subst IsMessage (sym h) tt); fee = omega arith; learns = λ i h. rw (← h) e }) (λ y. absurd y))
-      (λ e. quietly (step.Notice o) (taken (knowing s (withSite (s .known) o)) 0 0) notes (same-sl (does.noted in-none)) in-none
+      (λ e. quietly (step.Notice o) (taken (knowing s (withSite (s .known) o)) 0 0) notes (same-sl (does.shared (does.noted in-none))) in-none
       (record { heard = same-heard; kept = λ c i h. h; knows = in-with (s .known) o })
       (record { used = λ c i h. absurd h; brought = λ c i h. absurd (subst IsMessage (sym h) tt); fee = omega arith; learns = λ i h. in-with-new (s .known) o i (rw (← h) at-o) (sym h) }) (λ y. absurd y))
 
@@ -510,6 +510,9 @@ module _ (w : ℕ → Type 0) (r : Run) (g : Sound r) (u : Inv (viewOf w r)) (j 
 
     lone : Lowest a j
     lone i h y = clash (stopped i (low i (y .least) h)) (y .up)
+
+    backup : does.Backup a j
+    backup = record { late = λ e. absurd (omega (arith, after-first)); sees = λ e. absurd (classes.not-both refl e); below = follows-lower; lowest = lone }
 
     -- acknowledgements are cleared: there were none
     cleared : (y : Record) → y .yes ≡ s .yes → y .no ≡ s .no → y .acked ≡ 0 → y .known ≡ s .known → Holds y
@@ -530,11 +533,11 @@ module _ (w : ℕ → Type 0) (r : Run) (g : Sound r) (u : Inv (viewOf w r)) (j 
         (mute step.TakeOver _ κ n (λ h. absurd h))
 
     over-in : (q : State) → s .state ≡ q → M step.TakeOver (overIn q s)
-    over-in Q e = takes Abort A _ refl refl (cleared _ refl refl refl refl) (λ h. h) (does.over-q after-first follows-lower lone (st-is ∙ e) (everyone low))
-    over-in W e = takes MoveW W _ e refl (cleared _ refl refl refl refl) (λ h. h) (does.over tt after-first follows-lower lone (st-is ∙ e) (everyone low))
-    over-in P e = takes MoveP P _ e refl (cleared _ refl refl refl refl) (λ h. h) (does.over tt after-first follows-lower lone (st-is ∙ e) (everyone low))
-    over-in A e = takes Abort A _ e refl (cleared _ refl refl refl refl) (λ h. h) (does.over tt after-first follows-lower lone (st-is ∙ e) (everyone low))
-    over-in C e = takes Commit C _ e refl (cleared _ refl refl refl refl) (λ h. h) (does.over tt after-first follows-lower lone (st-is ∙ e) (everyone low))
+    over-in Q e = takes Abort A _ refl refl (cleared _ refl refl refl refl) (λ h. h) (does.shared (does.over-q backup (st-is ∙ e) (everyone low)))
+    over-in W e = takes MoveW W _ e refl (cleared _ refl refl refl refl) (λ h. h) (does.shared (does.over tt backup (st-is ∙ e) (everyone low)))
+    over-in P e = takes MoveP P _ e refl (cleared _ refl refl refl refl) (λ h. h) (does.shared (does.over tt backup (st-is ∙ e) (everyone low)))
+    over-in A e = takes Abort A _ e refl (cleared _ refl refl refl refl) (λ h. h) (does.shared (does.over tt backup (st-is ∙ e) (everyone low)))
+    over-in C e = takes Commit C _ e refl (cleared _ refl refl refl refl) (λ h. h) (does.shared (does.over tt backup (st-is ∙ e) (everyone low)))
 
   takes-over : M step.TakeOver (takeOverOf s)
   unfolding takeOverOf
@@ -555,9 +558,9 @@ module _ (w : ℕ → Type 0) (r : Run) (g : Sound r) (u : Inv (viewOf w r)) (j 
   tallies e =
       by-cond (M step.Conclude) (not (eqb (s .no) 0) || not (subset (s .known) (s .yes))) (taken (inState s A) 8 (toAll s))
       (cond (subset (othersOf (s .n) (s .number)) (s .yes)) (taken (inState s P) 4 (toAll s)) (refused s 5))
-      (λ _. concluding Abort A (λ h. h) (does.give-up one wait (leads-itself one) (everyone (none-below one))))
+      (λ _. concluding Abort A (λ h. h) (does.central refl (does.give-up one wait (leads-itself one) (everyone (none-below one)))))
       (λ _. by-cond (M step.Conclude) (subset (othersOf (s .n) (s .number)) (s .yes)) (taken (inState s P) 4 (toAll s)) (refused s 5)
-      (λ h. concluding MoveP P (λ h. h) (does.prepare one wait (leads-itself one) (said h) (everyone (none-below one))))
+      (λ h. concluding MoveP P (λ h. h) (does.central refl (does.prepare one wait (leads-itself one) (said h) (everyone (none-below one)))))
       (λ _. omega arith))
     where
       one : j ≡ 1
@@ -611,8 +614,8 @@ module _ (w : ℕ → Type 0) (r : Run) (g : Sound r) (u : Inv (viewOf w r)) (j 
   settles f =
       by-cond (M step.Conclude) (collects s && eqb (awaitedOf s) 0) (cond (isP (s .state)) (taken (inState s C) 7 (toAll s)) (taken (inState s A) 8 (toAll s))) (refused s 5)
       (λ e. by-cond (M step.Conclude) (isP (s .state)) (taken (inState s C) 7 (toAll s)) (taken (inState s A) 8 (toAll s))
-      (λ p. concluding Commit C (λ h. h) (does.end-c (leading (gather e)) (st-is ∙ is-p (s .state) p) (all-told (gather e) (none e)) (everyone (lower (gather e) (none e)))))
-      (λ p. concluding Abort A (λ h. h) (does.end-a (leading (gather e)) (st-is ∙ waits (gather e) p) (all-told (gather e) (none e)) (everyone (lower (gather e) (none e))))))
+      (λ p. concluding Commit C (λ h. h) (does.shared (does.end-c (leading (gather e)) (st-is ∙ is-p (s .state) p) (all-told (gather e) (none e)) (everyone (lower (gather e) (none e))))))
+      (λ p. concluding Abort A (λ h. h) (does.shared (does.end-a (leading (gather e)) (st-is ∙ waits (gather e) p) (all-told (gather e) (none e)) (everyone (lower (gather e) (none e)))))))
       (λ _. omega arith)
     where
       gather : (collects s && eqb (awaitedOf s) 0) ≡ true → collects s ≡ true

@@ -41,10 +41,12 @@ use Rattle.sets.specs.Truths.{and-i, clash, fails, or-none, either}
 use Rattle.promise.specs.SetsMembers.{In, in-none, minus-in, minus-out, others-in, others-out, below-in}
 use Rattle.promise.specs.RunViews.{recordOf, record-at, Runs, Placed, placed, Out, out-placed}
 use Rattle.promise.specs.RunEvents.{Accepted, accepted-by, allow}
-use Rattle.promise.specs.Classes.{Kind, Start, Yes, No, MoveP, MoveW, Ack, Commit, Abort, IsA, IsC, WP, First, is-a, is-c}
+use Rattle.promise.specs.Classes.{Kind, Start, Yes, No, MoveP, MoveW, Ack, Commit, Abort, Prepare, Central, IsA, IsC, WP, First, is-a, is-c}
 use Rattle.promise.specs.View.{Lowest}
 use Rattle.promise.specs.Become.{by-site}
-use Rattle.promise.specs.Owed.{Owed, Due}
+use Rattle.promise.specs.Owed.{Due}
+use Rattle.promise.specs.OwedCentral.{Asks}
+use Rattle.promise.specs.Owes.{Owes}
 use Rattle.promise.specs.Seen.{number, Recorded, viewOf}
 use Rattle.promise.specs.Stepping.{Sure, Stepped, steps}
 use Rattle.promise.specs.Words.{Voted}
@@ -91,7 +93,7 @@ tamed X (Refused g) t u = u t
 
 -- ---- a run in which no step is accepted
 
-module _ (w : ℕ → Type 0) (r : Run) (h : Held w r) (o : Owed (viewOf w r)) (ok : soundRun r ≡ true) (g : Sound r)
+module _ (w : ℕ → Type 0) (r : Run) (h : Held w r) (o : Owes (viewOf w r)) (ok : soundRun r ≡ true) (g : Sound r)
     (idle : (s : ℕ) (t : Step) → Accepted (eventOf r (Act s t) .outcome) → ⊥) where
   acts : (s : ℕ) (t : Step) → Runs r s → namesOf (siteAt r s) t ≡ true → isThere r s t ≡ true → Accepted (ruleOf (siteAt r s) t .outcome) → ⊥
   unfolding answered
@@ -137,6 +139,7 @@ module _ (w : ℕ → Type 0) (r : Run) (h : Held w r) (o : Owed (viewOf w r)) (
   quiet Ack k i m = none-other 6 k i m refl
   quiet Commit k i m = none-other 7 k i m refl
   quiet Abort k i m = none-other 8 k i m refl
+  quiet Prepare k i m = none-other 9 k i m refl
 
   -- a live message is recorded
   held : (κ : Kind) (k i : ℕ) → 1 ≤ i → viewOf w r .live κ k i → Recorded κ (siteAt r i) k
@@ -196,11 +199,14 @@ module _ (w : ℕ → Type 0) (r : Run) (h : Held w r) (o : Owed (viewOf w r)) (
       not-q q = go (ℕ-discrete s 1)
         where
           go : Dec (s ≡ 1) → ⊥
-          go (no ne) = o .left s x itself ne (rw (st-is ∙ q) tt)
+          go (no ne) = o .shared .left s x (itself, λ f. ne (f .0)) (rw (st-is ∙ q) tt)
           go (yes e) = acts s (step.Begin vote.Yes) x refl refl (unfold beginOf in simp (eq-eqb (z .number) 1 (mine ∙ e), q) tt)
 
-      due : (i : ℕ) → Runs r i → i ≢ s → Due (viewOf w r .live) s (z .state) (z .leader) i (viewOf w r .st i)
-      due i y ne = subst (λ (q : State). Due (viewOf w r .live) s q (z .leader) i (viewOf w r .st i)) st-is (subst (λ (l : ℕ). Due (viewOf w r .live) s (viewOf w r .st s) l i (viewOf w r .st i)) ld-is (o .due s i x y (λ e. ne (sym e))))
+      due : (i : ℕ) → Runs r i → i ≢ s → Due Central (viewOf w r .live) s (z .state) (z .leader) i (viewOf w r .st i)
+      due i y ne = subst (λ (q : State). Due Central (viewOf w r .live) s q (z .leader) i (viewOf w r .st i)) st-is (subst (λ (l : ℕ). Due Central (viewOf w r .live) s (viewOf w r .st s) l i (viewOf w r .st i)) ld-is (o .shared .due s i x y (λ e. ne (sym e))))
+
+      asks : (i : ℕ) → Runs r i → i ≢ s → Asks (viewOf w r .live) s (z .state) i (viewOf w r .st i)
+      asks i y ne = subst (λ (q : State). Asks (viewOf w r .live) s q i (viewOf w r .st i)) st-is (o .central refl .asks s i x y (λ e. ne (sym e)))
 
       -- site 1 in w would conclude
       not-first : s ≡ 1 → z .state ≡ W → ⊥
@@ -213,7 +219,7 @@ module _ (w : ℕ → Type 0) (r : Run) (h : Held w r) (o : Owed (viewOf w r)) (
               let ne : i ≢ s = λ f. others-out (z .n) (z .number) i m (f ∙ sym mine) in
               ⊎-elim (subset-has (z .known) (z .yes) i k)
               (λ f. let y : Runs r i = others-run i (p .least) l ne f in
-              ⊎-elim (λ m. absurd (held Start s i (p .least) m)) (⊎-elim (held Yes i s (x .least)) (λ m. absurd (in-none i (rw n at (held No i s (x .least) m))))) (due i y ne .asked e (rw q tt)))
+              ⊎-elim (λ m. absurd (held Start s i (p .least) m)) (⊎-elim (held Yes i s (x .least)) (λ m. absurd (in-none i (rw n at (held No i s (x .least) m))))) (asks i y ne .asked e (rw q tt)))
               (either (has (z .known) i))
 
           go : (b : Bool) → (not (eqb (z .no) 0) || not (subset (z .known) (z .yes))) ≡ b
@@ -225,7 +231,7 @@ module _ (w : ℕ → Type 0) (r : Run) (h : Held w r) (o : Owed (viewOf w r)) (
               simp (subset-of (othersOf (z .n) (z .number)) (z .yes) (others-lt (z .n) (z .number)) (said n k)) tt
 
       -- a leader in w or p would conclude
-      not-waiting : (First s (z .state) → ⊥) → WP (z .state) → polls z ≡ false → collects z ≡ true → ⊥
+      not-waiting : (First Central s (z .state) (z .leader) → ⊥) → WP (z .state) → polls z ≡ false → collects z ≡ true → ⊥
       not-waiting late q f c = acts s step.Conclude x refl refl (unfold concludeOf settleOf in simp (f, c, eq-eqb (awaitedOf z) 0 none) (go (isP (z .state))))
         where
           go : (b : Bool) → Accepted (cond b (taken (inState z C) 7 (toAll z)) (taken (inState z A) 8 (toAll z)) .outcome)

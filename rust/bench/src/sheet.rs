@@ -3,7 +3,8 @@
 use crate::plain;
 use crate::row::{Round, Row};
 use crate::side::Side;
-use compare::inputs::sheets::{any_case, product, renamed, Draft, Move};
+use compare::inputs::drafts::{product, Draft, Move};
+use compare::inputs::sheets::{any_case, renamed};
 use compare::inputs::{figures, Random};
 use compare::sheet::{faulty, Judging, AMPLE, OUT};
 use std::hint::black_box;

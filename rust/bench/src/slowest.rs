@@ -2,8 +2,9 @@
 
 use crate::journal::FULL;
 use crate::sheet::{against_the_order, largest};
+use compare::inputs::drafts::{product, Draft, Move};
 use compare::inputs::journals::Journals;
-use compare::inputs::sheets::{product, renamed, Draft, Move};
+use compare::inputs::sheets::renamed;
 use compare::inputs::Random;
 use compare::program::output;
 use std::time::{Duration, Instant};

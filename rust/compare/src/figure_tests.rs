@@ -1,8 +1,8 @@
 //! The figures through the second program: 01's worked sheet and the numbers of states.
 
+use crate::inputs::drafts::{product, Draft};
 use crate::inputs::faults;
 use crate::inputs::figures::{all, central, decentral};
-use crate::inputs::sheets::{product, Draft};
 use crate::inputs::Random;
 use second::report::sheets;
 

@@ -1,7 +1,8 @@
 //! Compares the judge and the report.
 
+use crate::inputs::drafts::Draft;
 use crate::inputs::sheets::{any_case, renamed, Case};
-use crate::inputs::{faults, figures, pattern, sheets, Random};
+use crate::inputs::{faults, figures, pattern, Random};
 use crate::tally::Tally;
 
 /// A program's `fj_sheet_judge` and `fj_sheet_report`.
@@ -45,7 +46,7 @@ pub fn compare(first: Judging, second: Judging, count: u64) -> Tally {
 /// few words are lent.
 pub fn faulty(random: &mut Random) -> Vec<Case> {
     let mut cases = Vec::new();
-    let mut add = |draft: &sheets::Draft, words| cases.push(Case { bytes: draft.bytes(), words });
+    let mut add = |draft: &Draft, words| cases.push(Case { bytes: draft.bytes(), words });
     for figure in figures::all() {
         add(&figure, 4096);
         add(&renamed(random, &figure), 4095);

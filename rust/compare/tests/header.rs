@@ -1,8 +1,8 @@
 //! What include/fjadrimor.h tells a C programmer: its numbers are the library's, under the names that
 //! the Rust crate has too, and the stack that it asks for is enough.
 
+use compare::inputs::drafts::product;
 use compare::inputs::journals::Journals;
-use compare::inputs::sheets::product;
 use compare::inputs::Random;
 use fjadrimor::{calls, Refusal};
 

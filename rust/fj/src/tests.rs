@@ -1,7 +1,9 @@
-//! The notation both ways, its errors, and the words beside a transcript.
+//! The notation both ways, its errors, its limit, and the words beside a transcript.
 
-use crate::notation::{assemble, is_text, show, title};
-use crate::rehearsal::{beside, transcript};
+use crate::beside::Rehearsal;
+use crate::input::{is_text, no_text, LIMIT};
+use crate::notation::{assemble, line_of, show, start, title, FULL};
+use crate::place::Error;
 use crate::words::{fields, words, Fields};
 
 /// An event of every kind, with the fields of its record.
@@ -25,7 +27,7 @@ const EVENTS: [(&str, Fields); 16] = [
 ];
 
 /// All fields that the library writes as a record, with one or another set where there is one.
-fn all_fields() -> impl Iterator<Item = Fields> {
+pub fn all_fields() -> impl Iterator<Item = Fields> {
     let small = |range: std::ops::RangeInclusive<u8>| range.collect::<Vec<u8>>();
     let kinds = small(1..=6).into_iter().chain(17..=21);
     kinds.flat_map(move |k| {
@@ -52,7 +54,7 @@ pub fn chance(seed: u64) -> impl FnMut() -> u64 {
     }
 }
 
-fn why(text: &str) -> String {
+fn why(text: &str) -> Error {
     assemble(text).expect_err(text)
 }
 
@@ -85,7 +87,7 @@ fn a_journal_is_shown_as_it_is_written() {
     let bytes = assemble(&text).unwrap();
     assert_eq!(bytes.len(), 1 + 9 * EVENTS.len());
     assert_eq!(bytes[..10], [3, 0, 7, 1, 1, 1, 0, 0, 1, 0]);
-    assert_eq!(show(&bytes), text);
+    assert_eq!(show(&bytes, false), text);
 }
 
 #[test]
@@ -97,7 +99,7 @@ fn comments_blanks_capitals_and_order_do_not_matter() {
     let canonical = "sites 2\nstop 1 during take over leaving 2 3\n\
                      stop 1 during conclude leaving none\n\
                      deliver 2 move-p from 1\ndeliver 2 move-p from 1\n";
-    assert_eq!(show(&bytes), canonical);
+    assert_eq!(show(&bytes, false), canonical);
     assert_eq!(assemble(canonical), Ok(bytes));
     assert_eq!(title(free), Some("A title"));
     assert_eq!(title("sites 2\n# later"), None);
@@ -115,7 +117,7 @@ fn examples() -> Vec<&'static str> {
 #[test]
 fn the_examples_in_the_help_are_understood() {
     let examples = examples();
-    let shown = show(&assemble(&examples.join("\n")).unwrap());
+    let shown = show(&assemble(&examples.join("\n")).unwrap(), false);
     assert_eq!(examples.iter().filter(|line| line.starts_with("stop ")).count(), 3);
     assert!(examples.contains(&"stop 1 during conclude"));
     assert!(shown.contains("\nstop 1 during conclude leaving none\n"), "{shown}");
@@ -126,7 +128,7 @@ fn what_the_run_will_refuse_is_kept() {
     for text in
         ["sites 0\n", "sites 255\nbegin 1 yes\n", "sites 2\nstop 8\nstop 8\nnotice 5 of 5\n"]
     {
-        assert_eq!(show(&assemble(text).unwrap()), text);
+        assert_eq!(show(&assemble(text).unwrap(), false), text);
     }
 }
 
@@ -143,7 +145,7 @@ fn damaged_bytes_are_kept() {
     ];
     for (damage, ground) in damages {
         let bytes = assemble(&format!("{good}{damage}")).unwrap();
-        let shown = show(&bytes);
+        let shown = show(&bytes, false);
         assert!(shown.starts_with(&format!("{good}# bad {ground}: ")), "{shown}");
         assert!(shown.ends_with(damage), "{shown}");
         assert_eq!(assemble(&shown), Ok(bytes));
@@ -153,7 +155,7 @@ fn damaged_bytes_are_kept() {
 #[test]
 fn bytes_that_are_a_good_record_are_shown_in_words() {
     let bytes = assemble("sites 2\nbytes 00 07 01\nbytes 05 01 00 00 00 00").unwrap();
-    assert_eq!(show(&bytes), "sites 2\nconclude 1\n");
+    assert_eq!(show(&bytes, false), "sites 2\nconclude 1\n");
 }
 
 #[test]
@@ -170,7 +172,7 @@ fn any_bytes_are_shown_and_assembled_again() {
                 }
             });
         }
-        let shown = show(&bytes);
+        let shown = show(&bytes, false);
         assert!(is_text(shown.as_bytes()));
         assert_eq!(assemble(&shown), Ok(bytes));
     }
@@ -189,74 +191,175 @@ fn text_and_bytes_are_told_apart() {
 }
 
 #[test]
+fn the_byte_that_makes_it_no_text_is_named() {
+    assert_eq!(no_text(b"sites 2\n\n# a\x1bb"), Some((3, 0x1b)));
+    assert_eq!(no_text("# M\u{fc}nchen\r\n\tsites 2".as_bytes()), None);
+}
+
+#[test]
 fn a_text_that_says_nothing_is_an_error() {
     for text in ["", "\n", " \t\r\n\n", "\u{feff}", "# only a comment", "#\n\n# another\n"] {
-        assert_eq!(why(text), "the number of sites is missing", "{text:?}");
+        let missing = Error { line: 0, reason: "the number of sites is missing".to_string() };
+        assert_eq!(why(text), missing, "{text:?}");
     }
 }
 
 #[test]
 fn an_error_names_the_line_and_the_reason() {
     let errors = [
-        ("begin 1 yes", "line 1: the number of sites comes first"),
-        ("\n# nothing\nsites", "line 3: the number of sites comes first"),
-        ("sites 2\nsites 2", "line 2: the number of sites has been said already"),
-        ("sites x", "line 1: `x` is not a number from 0 to 255"),
-        ("sites 256", "line 1: `256` is not a number"),
-        ("sites +2", "line 1: `+2` is not a number"),
-        ("sites 2\n\nbegn 1 yes", "line 3: `begn 1 yes` is not understood; a line begins with"),
-        ("sites 2\nbegin 1", "line 2: `begin 1` is not understood; write it as: begin 1 yes"),
-        ("sites 2\nbegin 1 maybe", "line 2: `maybe` is not a vote"),
-        ("sites 2\ndeliver 2 move from 1", "line 2: `move` is not a message; messages are start,"),
-        ("sites 2\ndeliver 2 start to 1 yes", "write it as: deliver 2 start from 1 yes"),
-        ("sites 2\nnotice 2 1", "write it as: notice 2 of 1"),
-        ("sites 2\ntake 2", "write it as: take over 2"),
-        ("sites 2\nconclude", "write it as: conclude 1"),
-        ("sites 2\nstop 1 during begin leaving 2", "write it as: stop 3, or stop 1 during"),
-        ("sites 2\nstop 1 during conclude leaving", "line 2: after leaving come sites, or none"),
-        ("sites 2\nstop 1 during conclude leaving 9", "line 2: `9` is not a site"),
-        ("sites 2\nrepeat 3", "write it as: repeat 10 conclude 1"),
-        ("sites 2\nrepeat 100001 conclude 1", "line 2: a line can be repeated 0 to 100000 times"),
-        ("sites 2\nbytes 0 7", "line 2: `0` is not a byte"),
-        ("sites 2\nbytes +1", "line 2: `+1` is not a byte"),
+        ("begin 1 yes", 1, "the number of sites comes first"),
+        ("\n# nothing\nsites", 3, "the number of sites comes first"),
+        ("sites 2\nsites 2", 2, "the number of sites has been said already"),
+        ("sites x", 1, "`x` is not a number of sites: 2 to 8"),
+        ("sites 256", 1, "`256` is not a number of sites: 2 to 8"),
+        ("sites +2", 1, "`+2` is not a number of sites: 2 to 8"),
+        ("sites 2\n\nbegn 1 yes", 3, "`begn 1 yes` is not understood; a line begins with"),
+        ("sites 2\nbegin 1", 2, "`begin 1` is not understood; write it as: begin 1 yes"),
+        ("sites 2\nbegin 1 maybe", 2, "`maybe` is not a vote: yes or no"),
+        ("sites 2\nbegin x yes", 2, "`x` is not a site: a number from 1 to 8"),
+        ("sites 2\nstop 256", 2, "`256` is not a site: a number from 1 to 8"),
+        ("sites 2\ndeliver 2 move from 1", 2, "`move` is not a message; messages are start,"),
+        ("sites 2\ndeliver 2 start to 1 yes", 2, "`deliver 2 start to 1 yes` is not understood"),
+        ("sites 2\nnotice 2 1", 2, "`notice 2 1` is not understood; write it as: notice 2 of 1"),
+        ("sites 2\ntake 2", 2, "`take 2` is not understood; write it as: take over 2"),
+        ("sites 2\nconclude", 2, "`conclude` is not understood; write it as: conclude 1"),
+        ("sites 2\nstop 1 during begin leaving 2", 2, "`stop 1 during begin leaving 2` is not"),
+        ("sites 2\nstop 1 during conclude leaving", 2, "after leaving come sites, or none"),
+        ("sites 2\nstop 1 during conclude leaving 9", 2, "9 is not a site: a number from 1 to 8"),
+        ("sites 2\nrepeat 3", 2, "`repeat 3` is not understood; write it as: repeat 10 conclude 1"),
+        ("sites 2\nrepeat -1 conclude 1", 2, "`-1` is not a number of times"),
+        ("sites 2\nbytes 0 7", 2, "`0` is not a byte"),
+        ("sites 2\nbytes +1", 2, "`+1` is not a byte"),
     ];
-    for (text, expected) in errors {
+    for (text, line, expected) in errors {
         let found = why(text);
-        assert!(found.contains(expected) && found.starts_with("line "), "{text}: {found}");
+        assert!(found.reason.starts_with(expected), "{text}: {}", found.reason);
+        assert_eq!(found.line, line, "{text}");
     }
 }
 
 #[test]
-fn the_library_decides_about_fields() {
-    let refused = "line 2: refused 14: a field is outside its range; write it as: ";
-    for event in ["stop 9", "begin 0 yes", "deliver 2 start from 1", "deliver 1 yes from 2 no"] {
-        assert!(why(&format!("sites 2\n{event}")).starts_with(refused), "{event}");
+fn the_library_decides_about_fields_and_the_words_say_what_is_wrong() {
+    let refusals = [
+        ("begin 9 yes", "9 is not a site: a number from 1 to 8"),
+        ("stop 0", "0 is not a site: a number from 1 to 8"),
+        ("notice 1 of 9", "9 is not a site: a number from 1 to 8"),
+        ("deliver 1 yes from 255", "255 is not a site: a number from 1 to 8"),
+        ("stop 9 during conclude", "9 is not a site: a number from 1 to 8"),
+        (
+            "deliver 2 start from 1",
+            "a start comes with the vote of site 2; write it as: deliver 2 start from 1 yes",
+        ),
+        (
+            "stop 2 during deliver start from 1 leaving 1",
+            "a start comes with the vote of site 2; \
+             write it as: stop 2 during deliver start from 1 yes leaving 1",
+        ),
+        (
+            "deliver 1 yes from 2 no",
+            "only a start comes with a vote; write it as: deliver 1 yes from 2",
+        ),
+    ];
+    for (event, expected) in refusals {
+        let reason = format!("refused 14: {expected}");
+        assert_eq!(why(&format!("sites 2\n{event}")), Error { line: 2, reason });
     }
-    assert!(why("sites 2\nnotice 1 of 9").contains("refused 14"));
+}
+
+/// Whatever the library's writer refuses has its own words.
+#[test]
+fn every_refused_field_has_its_words() {
+    let words =
+        ["begin 1 yes", "deliver 2 start from 1 no", "deliver 1 ack from 2", "notice 1 of 2"];
+    let mut refused = 0;
+    for said in words.map(|event| event.split(' ').collect::<Vec<_>>()) {
+        for place in 0..said.len() {
+            for other in ["0", "1", "8", "9", "255", "yes", "no", "start", "ack"] {
+                let mut event = said.clone();
+                event[place] = other;
+                if let Err(error) = assemble(&format!("sites 2\n{}", event.join(" "))) {
+                    assert!(!error.reason.contains("a field is"), "{event:?}: {}", error.reason);
+                    refused += usize::from(error.reason.starts_with("refused 14: "));
+                }
+            }
+        }
+    }
+    assert!(refused > 20, "{refused}");
 }
 
 #[test]
-fn words_stand_beside_the_transcript() {
-    let text = "sites 2\nbegin 1 yes\nconclude 1\nbytes 00 07 02 05 01 00 00 00 00";
+fn a_long_line_is_told_in_part() {
+    let reason = why(&format!("sites 2\nbegin {} yes", "9".repeat(5000))).reason;
+    assert_eq!(reason, format!("`{}..` is not a site: a number from 1 to 8", "9".repeat(60)));
+}
+
+#[test]
+fn what_fits_is_repeated_and_no_more() {
+    let events = (LIMIT - 1) / 9;
+    assert_eq!(events, 7281);
+    assert!(FULL.contains("65,536 bytes") && FULL.contains("7,281 events"));
+    let full = assemble(&format!("sites 2\nrepeat {events} conclude 1")).unwrap();
+    assert_eq!(full.len(), start(events + 1));
+    for (text, line, left) in [
+        (format!("sites 2\nrepeat {} conclude 1", events + 1), 2, events),
+        (format!("sites 2\nbegin 1 yes\nrepeat {events} conclude 1"), 3, events - 1),
+        (format!("sites 2\nrepeat {events} conclude 1\nrepeat 1 stop 1"), 3, 0),
+        (format!("sites 2\nrepeat {} conclude 1", u64::MAX), 2, events),
+        (format!("sites 2\nrepeat {}0 conclude 1", u64::MAX), 2, events),
+    ] {
+        let error = why(&text);
+        let end = format!("times is more than the {left} that fit: {FULL}");
+        assert!(error.line == line && error.reason.ends_with(&end), "{error:?}");
+    }
+    // A line more is kept, and not read.
+    let longer = format!("sites 2\nrepeat {events} conclude 1\n\nconclude 1\nrepeat 0 stop 1");
+    assert_eq!(assemble(&longer).unwrap().len(), full.len() + 9);
+    assert_eq!((line_of(&longer, full.len()), line_of(&longer, full.len() + 9)), (4, 0));
+}
+
+fn rehearsed(text: &str) -> Rehearsal {
     let journal = assemble(text).unwrap();
-    let told = transcript(&journal).unwrap();
-    assert_eq!(told, "sites 2\n1 taken wq\n2 refused 5 wq\n3 bad 12\nend 1 1\n");
+    Rehearsal::new(&journal, journal.len() > LIMIT).unwrap()
+}
+
+#[test]
+fn words_stand_beside_the_transcript_and_below_it() {
+    let text = "sites 2\nbegin 1 yes\nconclude 1\nbytes 00 07 02 05 01 00 00 00 00";
+    let told = rehearsed(text);
+    assert_eq!(told.transcript, "sites 2\n1 taken wq\n2 refused 5 wq\n3 bad 12\nend 1 1\n");
     assert_eq!(
-        beside(&told, &journal),
+        told.text(),
         "sites 2\n\
          1 taken wq      begin 1 yes\n\
-         2 refused 5 wq  conclude 1 (begin, take over or conclude is not allowed here)\n\
+         2 refused 5 wq  conclude 1 (site 1 awaits the vote of site 2)\n\
          3 bad 12        (the record's version is not 1; no more is read)\n\
-         end 1 1         events accepted: 1, messages written: 1\n"
+         end 1 1         events accepted: 1, messages written: 1\n\
+         \x20               outstanding: start from 1 to 2\n\
+         \x20               undecided: site 1 in w waits for the vote of site 2\n\
+         \x20               undecided: site 2 in q waits for site 1\n"
     );
+}
+
+#[test]
+fn the_limit_is_said_where_it_is_met() {
+    let longer = "sites 2\nrepeat 7281 conclude 1\nconclude 1";
+    let told = rehearsed(longer).text();
+    let limit = told.lines().find(|line| line.starts_with("7282 bad 10 ")).unwrap();
+    assert!(limit.ends_with(&format!("({FULL}; no more is read)")), "{limit}");
+    // Six bytes more than fit are read, and are no record.
+    let torn = rehearsed("sites 2\nrepeat 7281 conclude 1\nbytes 00 07 01 05 01 00");
+    let (place, ground, why) = torn.bad().unwrap();
+    assert_eq!((place, ground, why), (7282, 10, "the record is not complete; no more is read"));
+    assert!(rehearsed("sites 2\nrepeat 7281 conclude 1").bad().is_none());
 }
 
 #[test]
 fn no_sites_no_run() {
     for journal in [&[][..], &[9], &[0, 0, 7]] {
-        let told = transcript(journal).unwrap();
-        assert_eq!(told, "refused 1\n");
-        assert!(beside(&told, journal).contains("the number of sites is not 2 to 8"));
+        let told = Rehearsal::new(journal, false).unwrap();
+        assert_eq!(told.transcript, "refused 1\n");
+        assert!(told.run.is_none());
+        assert!(told.text().contains("the number of sites is not 2 to 8"));
         assert!(crate::chart::chart(journal, None).unwrap_err().starts_with("refused 1: "));
     }
 }

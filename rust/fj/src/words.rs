@@ -5,6 +5,9 @@ pub type Fields = [u8; 6];
 
 const MESSAGES: [&str; 8] = ["start", "yes", "no", "move-p", "move-w", "ack", "commit", "abort"];
 
+/// The characters of a text that are told of it.
+const QUOTED: usize = 60;
+
 /// How the lines that begin with a word are written.
 const FORMS: [(&str, &str); 9] = [
     ("sites", "sites 3"),
@@ -68,12 +71,12 @@ fn step_words(k: u8, o: u8, m: u8, v: u8) -> (&'static str, String) {
 /// The fields of an event in words. Whether a record may have them, the library decides.
 pub fn fields(words: &[&str]) -> Result<Fields, String> {
     match *words {
-        ["stop", s] => Ok([6, number(s)?, 0, 0, 0, 0]),
+        ["stop", s] => Ok([6, site(s)?, 0, 0, 0, 0]),
         ["stop", s, "during", ref rest @ ..] => {
             let end = rest.iter().position(|word| *word == "leaving").unwrap_or(rest.len());
             let [k, o, m, v] = step_fields(&rest[..end], words)?;
             let leaving = rest.get(end + 1..).unwrap_or(&["none"]);
-            Ok([16 + k, number(s)?, o, m, v, set(leaving)?])
+            Ok([16 + k, site(s)?, o, m, v, set(leaving)?])
         }
         ["take", "over", s, ref rest @ ..] => plain_fields("take over", s, rest, words),
         [verb, s, ref rest @ ..] => plain_fields(verb, s, rest, words),
@@ -85,16 +88,16 @@ pub fn fields(words: &[&str]) -> Result<Fields, String> {
 fn plain_fields(verb: &str, s: &str, rest: &[&str], event: &[&str]) -> Result<Fields, String> {
     let step: Vec<&str> = verb.split(' ').chain(rest.iter().copied()).collect();
     let [k, o, m, v] = step_fields(&step, event)?;
-    Ok([k, number(s)?, o, m, v, 0])
+    Ok([k, site(s)?, o, m, v, 0])
 }
 
 /// K, O, M and V of a step of an event, with the site left out.
 fn step_fields(step: &[&str], event: &[&str]) -> Result<[u8; 4], String> {
     match *step {
         ["begin", v] => Ok([1, 0, 0, vote(v)?]),
-        ["deliver", m, "from", o] => Ok([2, number(o)?, kind(m)?, 0]),
-        ["deliver", m, "from", o, v] => Ok([2, number(o)?, kind(m)?, vote(v)?]),
-        ["notice", "of", o] => Ok([3, number(o)?, 0, 0]),
+        ["deliver", m, "from", o] => Ok([2, site(o)?, kind(m)?, 0]),
+        ["deliver", m, "from", o, v] => Ok([2, site(o)?, kind(m)?, vote(v)?]),
+        ["notice", "of", o] => Ok([3, site(o)?, 0, 0]),
         ["take", "over"] => Ok([4, 0, 0, 0]),
         ["conclude"] => Ok([5, 0, 0, 0]),
         _ => Err(unclear(event)),
@@ -102,27 +105,61 @@ fn step_fields(step: &[&str], event: &[&str]) -> Result<[u8; 4], String> {
 }
 
 fn unclear(event: &[&str]) -> String {
-    format!("`{}` is not understood; {}", event.join(" "), advice(event))
+    format!("{} is not understood; {}", quoted(&event.join(" ")), advice(event))
 }
 
-/// A number of one byte.
-pub fn number(word: &str) -> Result<u8, String> {
-    let digits = word.bytes().all(|byte| byte.is_ascii_digit());
-    word.parse().ok().filter(|_| digits).ok_or(format!("`{word}` is not a number from 0 to 255"))
+/// A part of a text as it is told, cut where it is too long for a line.
+pub fn quoted(text: &str) -> String {
+    let cut = if text.chars().count() > QUOTED { ".." } else { "" };
+    let shown: String = text.chars().take(QUOTED).collect();
+    format!("`{}{cut}`", shown.replace(char::is_control, "\u{fffd}"))
+}
+
+/// Why no record has the fields of an event in words, where the library has refused them.
+pub fn wrong_field([k, s, o, m, v, x]: Fields) -> Option<String> {
+    let named = if matches!(k & 15, 2 | 3) { o } else { s };
+    if let Some(other) = [s, named].into_iter().find(|site| !(1..=8).contains(site)) {
+        return Some(no_site(&other.to_string()));
+    }
+    match (m, v) {
+        (1, 0) => {
+            let event = words([k, s, o, m, 1, x]);
+            Some(format!("a start comes with the vote of site {s}; write it as: {event}"))
+        }
+        (2.., 1..) => {
+            let event = words([k, s, o, m, 0, x]);
+            Some(format!("only a start comes with a vote; write it as: {event}"))
+        }
+        _ => None,
+    }
+}
+
+fn no_site(word: &str) -> String {
+    format!("{word} is not a site: a number from 1 to 8")
+}
+
+/// A number of one byte, if a word is one.
+pub fn number(word: &str) -> Option<u8> {
+    word.parse().ok().filter(|_| word.bytes().all(|byte| byte.is_ascii_digit()))
+}
+
+/// A site as a record's byte has it. Whether a record may have it, the library decides.
+fn site(word: &str) -> Result<u8, String> {
+    number(word).ok_or_else(|| no_site(&quoted(word)))
 }
 
 fn vote(word: &str) -> Result<u8, String> {
     match word {
         "yes" => Ok(1),
         "no" => Ok(2),
-        _ => Err(format!("`{word}` is not a vote: yes or no")),
+        _ => Err(format!("{} is not a vote: yes or no", quoted(word))),
     }
 }
 
 fn kind(word: &str) -> Result<u8, String> {
     let place = MESSAGES.iter().position(|name| *name == word);
     let place = place.ok_or_else(|| {
-        format!("`{word}` is not a message; messages are {}", MESSAGES.join(", "))
+        format!("{} is not a message; messages are {}", quoted(word), MESSAGES.join(", "))
     })?;
     Ok(place as u8 + 1)
 }
@@ -132,9 +169,9 @@ fn set(words: &[&str]) -> Result<u8, String> {
     match *words {
         [] => Err("after leaving come sites, or none".to_string()),
         ["none"] => Ok(0),
-        _ => words.iter().try_fold(0, |set, word| match number(word) {
-            Ok(site @ 1..=8) => Ok(set | 1 << (site - 1)),
-            _ => Err(format!("`{word}` is not a site: a number from 1 to 8")),
+        _ => words.iter().try_fold(0, |set, word| match site(word)? {
+            site @ 1..=8 => Ok(set | 1 << (site - 1)),
+            other => Err(no_site(&other.to_string())),
         }),
     }
 }

@@ -2,7 +2,13 @@
 //! A lent slice is passed as its address and its length. The types of this crate stand on these.
 
 /// The calls as C has them, for whoever holds addresses and not slices: a null pointer with length 0,
-/// say. The slices of one call must be live and must not overlap.
+/// say.
+///
+/// # Safety
+///
+/// Each address with its length must be a slice as Rust has it, unless the length is 0: live until
+/// the call returns, initialised, and aligned for its elements, so that `words` stands at a multiple
+/// of eight. What is `*mut` must be there to write, too. The slices of one call must not overlap.
 pub mod c {
     extern "C" {
         pub fn fj_site_step(

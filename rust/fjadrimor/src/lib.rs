@@ -57,3 +57,6 @@ pub use run::{Ran, Run};
 pub use sheet::{Decision, Judgement, Local, Sheet, Verdict};
 pub use site::{Done, Outcome, Site, State};
 pub use sites::Sites;
+
+/// The version of this crate, and of the library that it is made for.
+pub const VERSION: &str = env!("CARGO_PKG_VERSION");

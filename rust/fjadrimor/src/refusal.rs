@@ -51,9 +51,9 @@ grounds! {
     ReadsNothing = 26, "a transition reads nothing";
     ReadTwice = 27, "a message is read by two sites";
     NotFinal = 28, "a transition leads from an abort or commit state to a state of another mark";
-    Cycle = 29, "a site can come back to a state that it has left";
+    Cycle = 29, "a site's diagram has a cycle, whatever the messages allow";
     ManyStates = 30, "more than 4,096 global states are reachable";
-    Clash = 31, "a message can be written while it is still outstanding";
+    Clash = 31, "a transition can write a message that is still outstanding after its reading";
 }
 
 impl Refusal {

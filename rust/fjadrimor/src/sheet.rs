@@ -85,7 +85,8 @@ impl Sheet {
         Ok(Judgement { sites, verdict, tolerance, reachable: words, locals })
     }
 
-    /// What the sheet program prints for this sheet.
+    /// What the sheet program prints for this sheet, all of whose bytes count here. Of more than
+    /// 65,536 bytes the program takes the first 65,536, and its ground may be another.
     pub fn report(&self) -> String {
         let mut words = vec![0; WORDS];
         let mut text = vec![0; ROOM];

@@ -36,7 +36,8 @@ impl State {
 #[derive(Clone, Copy, Debug, PartialEq, Eq, Hash)]
 pub enum Outcome {
     Taken,
-    /// Passed over: it writes nothing, and changes at most the leader followed.
+    /// Passed over: it writes nothing, and changes at most the leader followed. In a run a delivered
+    /// message leaves the network all the same.
     Passed,
 }
 

@@ -13,4 +13,5 @@ pub mod run;
 pub mod run_bytes;
 pub mod sheet;
 pub mod site;
+pub mod words;
 pub mod wrong;

@@ -1,37 +1,66 @@
 //! The second program's commands.
 
-use second::explore::{bound, explore};
-use second::run::{lawful, Rule};
+use second::explore::{bound, explore, Findings, CLAIMS};
+use second::run::{event, Rule};
+use second::words::journal;
 use second::wrong::WRONG;
 use std::io::Read;
 use std::process::ExitCode;
 
-const USAGE: &str = "usage: second explore N [--wrong NAME]   (N is 2 to 8, feasible up to 4)
-  NAME is late-move-p, q-means-no-vote, skip-phase-1 or hasty-conclude
+const USAGE: &str = "usage: second explore N [--wrong RULE] [--claim CLAIM]
+         N is 2 to 8, feasible up to 4
        second rehearsal < JOURNAL
        second sheets < SHEET";
 
-/// The rule that the arguments after N name.
-fn rule(arguments: &[&str]) -> Option<Rule> {
-    match arguments {
-        [] => Some(lawful),
-        ["--wrong", name] => WRONG.iter().find(|wrong| wrong.0 == *name).map(|wrong| wrong.1),
+/// Searches all runs of n sites by the rule and for the claims that the other arguments name: 01's
+/// own rule and every claim where they name none. What a wrong rule does is printed.
+fn explored(n: u8, arguments: &[&str]) -> Option<bool> {
+    match *arguments {
+        ["--wrong", name, ref rest @ ..] => {
+            let wrong = WRONG.iter().find(|wrong| wrong.name == name)?;
+            let claims = claims(rest)?;
+            println!("# {}: {}", wrong.name, wrong.does);
+            Some(searched(n, wrong.rule, &claims))
+        }
+        _ => Some(searched(n, event, &claims(arguments)?)),
+    }
+}
+
+/// The claims to look at.
+fn claims<'a>(arguments: &[&'a str]) -> Option<Vec<&'a str>> {
+    match *arguments {
+        [] => Some(CLAIMS.to_vec()),
+        ["--claim", claim] if CLAIMS.contains(&claim) => Some(vec![claim]),
         _ => None,
     }
 }
 
-/// Searches all runs, prints what was found, and tells whether every claim holds.
-fn explored(n: u8, rule: Rule) -> bool {
-    let found = explore(n, rule);
+/// Prints what a search found, and tells whether the claims hold. Of one that does not, a list of
+/// events that shows it is printed as a journal, and then its name.
+fn searched(n: u8, rule: Rule, claims: &[&str]) -> bool {
+    match explore(n, rule, claims) {
+        Ok(found) if claims.len() == CLAIMS.len() => tell(n, &found),
+        Ok(_) => {
+            println!("{} holds", claims.join(", "));
+            true
+        }
+        Err(broken) => {
+            print!("{}", journal(n, rule, &broken.events));
+            println!("# broken: {}", broken.claim);
+            false
+        }
+    }
+}
+
+/// Prints what a search for every claim found, and tells whether both commit and abort are reached.
+fn tell(n: u8, found: &Findings) -> bool {
     let yes_no = |reached| if reached { "reached" } else { "never reached" };
     println!("sites {n}");
     println!("states of run and votes {}", found.points);
     println!("longest run {} of at most {}", found.longest, bound(n.into()));
     println!("commit {}, abort {}", yes_no(found.commits), yes_no(found.aborts));
-    found.broken.iter().for_each(|claim| println!("broken: {claim}"));
-    let holds = found.broken.is_empty() && found.commits && found.aborts;
-    println!("{}", if holds { "every claim holds" } else { "not every claim holds" });
-    holds
+    println!("every claim holds");
+    found.commits && found.aborts
 }
 
 /// Standard input as a text.
@@ -48,7 +77,7 @@ fn run(arguments: &[&str]) -> Option<bool> {
         ["sheets"] => Some(answer(second::report::sheets)),
         ["explore", n, rest @ ..] => {
             let n = n.parse().ok().filter(|n| (2..=8).contains(n))?;
-            Some(explored(n, rule(rest)?))
+            explored(n, rest)
         }
         _ => None,
     }
@@ -62,6 +91,8 @@ fn main() -> ExitCode {
         Some(false) => ExitCode::FAILURE,
         None => {
             eprintln!("{USAGE}");
+            eprintln!("claims: {}\nwrong rules:", CLAIMS.join(", "));
+            WRONG.iter().for_each(|wrong| eprintln!("  {:<18} {}", wrong.name, wrong.does));
             ExitCode::from(2)
         }
     }

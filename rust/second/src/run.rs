@@ -31,10 +31,13 @@ pub struct Next {
     pub awaited: usize,
 }
 
-/// The way a site takes a step in a run: `lawful`, or one of the wrong rules that `explore` tries.
-pub type Rule = fn(&Run, u8, &Step) -> Result<Done, u8>;
+/// The way a site takes a step in a run: `lawful`, or a wrong one that `explore` tries.
+pub type Stepping = fn(&Run, u8, &Step) -> Result<Done, u8>;
 
-/// 01's own rule: the site's step, by its record alone.
+/// The way an event goes: `event`, or a wrong one that `explore` tries.
+pub type Rule = fn(&Run, u8, &Happening) -> Result<Next, u8>;
+
+/// 01's own way: the site's step, by its record alone.
 pub fn lawful(run: &Run, site: u8, step: &Step) -> Result<Done, u8> {
     site::step(run.record(site), step)
 }
@@ -127,24 +130,24 @@ pub fn event(run: &Run, site: u8, happening: &Happening) -> Result<Next, u8> {
     event_by(lawful, run, site, happening)
 }
 
-/// One event of a run whose sites step by a given rule.
-pub fn event_by(rule: Rule, run: &Run, site: u8, happening: &Happening) -> Result<Next, u8> {
+/// One event of a run whose sites step in a given way.
+pub fn event_by(way: Stepping, run: &Run, site: u8, happening: &Happening) -> Result<Next, u8> {
     if !run.sound() {
         return Err(1);
     }
     match happening {
-        Happening::Step(step) => take_step(rule, run, site, step),
+        Happening::Step(step) => take_step(way, run, site, step),
         Happening::Stop => stop(run, site),
-        Happening::StopDuring(step, leaving) => stop_during(rule, run, site, step, leaving),
+        Happening::StopDuring(step, leaving) => stop_during(way, run, site, step, leaving),
     }
 }
 
 /// A step of a running site, its answer put into the run.
-fn take_step(rule: Rule, run: &Run, site: u8, step: &Step) -> Result<Next, u8> {
+fn take_step(way: Stepping, run: &Run, site: u8, step: &Step) -> Result<Next, u8> {
     if let Some(ground) = run.stands_in_the_way(site, step) {
         return Err(ground);
     }
-    let done = rule(run, site, step)?;
+    let done = way(run, site, step)?;
     let mut run = run.clone();
     if let Step::Deliver { kind, from, .. } = *step {
         run.network.remove(&(kind, from, site));
@@ -170,8 +173,14 @@ fn stop(run: &Run, site: u8) -> Result<Next, u8> {
 
 /// A stop inside a step: "refused as that step would be, and counts only messages that leave. Its
 /// whole record stays as before the step."
-fn stop_during(rule: Rule, run: &Run, site: u8, step: &Step, leaving: &Sites) -> Result<Next, u8> {
-    let mut left = take_step(rule, run, site, step)?.left;
+fn stop_during(
+    way: Stepping,
+    run: &Run,
+    site: u8,
+    step: &Step,
+    leaving: &Sites,
+) -> Result<Next, u8> {
+    let mut left = take_step(way, run, site, step)?.left;
     left.retain(|message| leaving.contains(&message.2));
     let mut run = run.clone();
     run.send(&left);

@@ -73,7 +73,7 @@ impl Call {
         let (b, b_len) = (room.address(), room.length());
         let (w, w_len) = (words.address(), words.length());
         let [k, s, o, m, v, x] = self.fields;
-        // SAFETY: the lent memory is live, distinct, and as long as said.
+        // SAFETY: the lent memory is live, initialised, aligned, distinct, and as long as said.
         let returned = unsafe {
             match self.entry {
                 Entry::SiteStep => c::fj_site_step(a, a_len, k, o, m, v, b, b_len).into(),

@@ -1,6 +1,6 @@
 //! Ways to make a good draft of a sheet show a ground for refusal.
 
-use super::sheets::{product, Draft, Move};
+use super::drafts::{product, Draft, Move};
 use super::Random;
 
 /// A change of a draft.

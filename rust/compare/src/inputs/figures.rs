@@ -1,6 +1,6 @@
 //! Commit protocols of Skeen's paper as sheets.
 
-use super::sheets::{Draft, Move};
+use super::drafts::{Draft, Move};
 
 const WORKING: u8 = 0;
 const ABORT: u8 = 1;

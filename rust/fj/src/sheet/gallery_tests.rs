@@ -1,7 +1,7 @@
 //! What holds of every sheet in the gallery, and of the one that docs/SHEETS.md shows.
 
 use super::model::{Sheet, Transition};
-use super::{judge, library, notation};
+use super::{judge, library, notation, refusal};
 use std::path::Path;
 
 const PAGE: &str = include_str!("../../../../docs/SHEETS.md");
@@ -88,4 +88,17 @@ fn the_page_shows_the_error_of_the_sheet_that_it_shows() {
     let error = notation::read(&wrong).expect_err("comit2 is no message");
     let told = format!("\nfj: two.sheet:{}: {}\n", error.line, error.reason);
     assert!(PAGE.contains(&told), "{told}");
+}
+
+#[test]
+fn the_page_shows_the_refusals_of_the_sheet_that_it_shows() {
+    for (ground, good, bad) in
+        [(27, "reads no2", "reads start2"), (31, "first request", "first request yes2")]
+    {
+        let sheet = notation::read(&shown().replacen(good, bad, 1)).expect("the notation is good");
+        assert_eq!(library::judge(&sheet.bytes()).err(), Some(ground));
+        let told = refusal::told(ground, &sheet, "two.sheet");
+        let lines: String = told.lines().map(|line| format!("fj: {line}\n")).collect();
+        assert!(PAGE.contains(&format!("```\n{lines}```\n")), "{lines}");
+    }
 }

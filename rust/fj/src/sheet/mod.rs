@@ -15,20 +15,28 @@ mod show;
 #[cfg(test)]
 mod tests;
 
+use crate::arguments::Arguments;
+use crate::input::{self, Content};
+use crate::place::Error;
+use crate::taken::Taken;
 use model::Sheet;
-use std::io::Read;
+use std::ffi::OsStr;
 
 pub const USAGE: &str = "usage: fj judge FILE                     the report, with names
        fj judge --plain FILE             the report as the sheet program prints it
+       fj judge --strict FILE            the report; exit status 1 where it says blocking
        fj sheet assemble FILE > SHEET    the bytes of a notation
        fj sheet show FILE                the notation of a sheet
        fj sheet draw FILE > SHEET.svg    each site's state diagram
-  FILE holds a sheet in the notation or in bytes; - is standard input.
+  FILE holds a sheet in the notation or in bytes; - is standard input, and -- ends the options.
+  All its bytes count, where the sheet program takes the first 65,536.
+  Exit status: 0 done; 1 where the sheet is refused or cannot be read; 2 bad usage.
 ";
 
-/// A sheet as it was given: its bytes, and the sheet with names where the bytes have the form of
-/// one.
+/// A sheet as it was given: its file's name, its bytes, and the sheet with names where the bytes
+/// have the form of one.
 struct Input {
+    file: String,
     bytes: Vec<u8>,
     sheet: Option<Sheet>,
 }
@@ -39,46 +47,74 @@ struct Answer {
     trouble: Option<String>,
 }
 
-/// Runs a command whose first word is `judge` or `sheet`; the exit status is 0, 1 where there was a
-/// refusal or an error, or 2 for a command that is none.
-pub fn command(args: &[String]) -> u8 {
-    let words: Vec<&str> = args.iter().map(String::as_str).collect();
-    let (job, file): (fn(&Input) -> Answer, &str) = match words[..] {
-        ["judge", file] if !file.starts_with("--") => (judged, file),
-        ["judge", "--plain", file] => (plain, file),
-        ["sheet", "assemble", file] => (assembled, file),
-        ["sheet", "show", file] => (shown, file),
-        ["sheet", "draw", file] => (drawn, file),
-        _ => {
-            eprint!("{USAGE}");
-            return crate::BAD_USAGE;
-        }
+/// What a command does with a sheet.
+type Job = fn(&Input) -> Answer;
+
+/// Runs `judge` or `sheet`; the exit status.
+pub fn command(command: &str, arguments: &Arguments) -> u8 {
+    match asked(command, arguments) {
+        Ok((job, file)) => done(job, file, arguments.has("--strict")),
+        Err(why) => crate::bad_usage(&why, "fj sheet --help"),
+    }
+}
+
+/// The job and the file that a command line asks for, or why it asks for none.
+fn asked<'a>(command: &str, arguments: &'a Arguments) -> Result<(Job, &'a OsStr), String> {
+    let second = arguments.word(1).unwrap_or_default();
+    let (name, job, options, after): (_, Job, &[&str], _) = match (command, &*second) {
+        ("judge", _) if arguments.has("--plain") => ("judge", plain, &["--plain", "--strict"], 1),
+        ("judge", _) => ("judge", judged, &["--strict"], 1),
+        (_, "assemble") => ("sheet assemble", assembled, &[], 2),
+        (_, "show") => ("sheet show", shown, &[], 2),
+        (_, "draw") => ("sheet draw", drawn, &[], 2),
+        (_, "") => return Err("sheet takes a command: assemble, show or draw".to_string()),
+        (_, other) => return Err(format!("sheet has no command {other}: assemble, show or draw")),
     };
-    let answer = input(file).map(|input| job(&input)).unwrap_or_else(Answer::trouble);
+    if let Some(option) = arguments.other_than(options) {
+        return Err(format!("{name} has no option {option}"));
+    }
+    let file = arguments.file(after).ok_or(format!("{name} takes one file"))?;
+    Ok((job, file))
+}
+
+/// Does a job with the sheet in a file; the exit status.
+fn done(job: Job, file: &OsStr, is_strict: bool) -> u8 {
+    let answer = match input(file) {
+        Ok(input) if is_strict => job(&input).strictly(&input),
+        Ok(input) => job(&input),
+        Err(why) => Answer::trouble(why),
+    };
     let status = crate::written(&answer.output);
     answer.trouble.map_or(status, |trouble| crate::bad_input(&trouble))
 }
 
 /// Reads a file.
-fn input(file: &str) -> Result<Input, String> {
-    let mut data = Vec::new();
-    let read = match file {
-        "-" => std::io::stdin().read_to_end(&mut data),
-        _ => std::fs::File::open(file).and_then(|mut open| open.read_to_end(&mut data)),
-    };
-    read.map_err(|error| format!("{file}: {error}"))?;
-    taken(data).map_err(|error| format!("{file}:{}: {}", error.line, error.reason))
+fn input(file: &OsStr) -> Result<Input, String> {
+    let read = input::read(file, false)?;
+    taken(read.name, read.content)
 }
 
-/// Takes a text as the notation, and anything else as bytes: a record has a control character where
-/// its version stands, and no text has one. A byte that is not UTF-8, in a comment say, is read as
-/// some other character.
-fn taken(data: Vec<u8>) -> Result<Input, notation::Error> {
-    if data.is_empty() || !crate::notation::is_text(&data) {
-        return Ok(Input { sheet: Sheet::from_bytes(&data), bytes: data });
+/// Takes a text as the notation, and anything else as bytes. An empty file is a record without its
+/// length.
+fn taken(file: String, content: Content) -> Result<Input, String> {
+    let text = match content {
+        Content::Text(text) if !text.is_empty() => text,
+        Content::Text(_) => return Ok(Input { file, bytes: Vec::new(), sheet: None }),
+        Content::Bytes(bytes, _) => {
+            return Ok(Input { file, sheet: Sheet::from_bytes(&bytes), bytes })
+        }
+    };
+    match notation::read(&text) {
+        Ok(sheet) => Ok(Input { file, bytes: sheet.bytes(), sheet: Some(sheet) }),
+        Err(Error { line, reason }) => {
+            Err(Error { line, reason: Taken::Sheet.in_notation(&text, &reason) }.within(&file))
+        }
     }
-    let sheet = notation::read(&String::from_utf8_lossy(&data))?;
-    Ok(Input { bytes: sheet.bytes(), sheet: Some(sheet) })
+}
+
+/// Whether bytes have the form of a sheet's record.
+pub fn is_record(bytes: &[u8]) -> bool {
+    Sheet::from_bytes(bytes).is_some()
 }
 
 impl Answer {
@@ -89,6 +125,15 @@ impl Answer {
     fn trouble(trouble: String) -> Answer {
         Answer { output: Vec::new(), trouble: Some(trouble) }
     }
+
+    /// The same answer, with a blocking verdict as trouble.
+    fn strictly(self, input: &Input) -> Answer {
+        let witness = library::judge(&input.bytes).ok().and_then(|judgement| judgement.witness);
+        let blocking = witness.map(|(site, state, condition)| {
+            format!("{}: blocking at {site}.{state} condition {condition}", input.file)
+        });
+        Answer { trouble: self.trouble.or(blocking), ..self }
+    }
 }
 
 impl Input {
@@ -98,18 +143,26 @@ impl Input {
         match (&self.sheet, judged) {
             (Some(sheet), Ok(judgement)) => Ok((sheet, Ok(judgement))),
             (Some(sheet), Err(ground @ 30..=31)) => Ok((sheet, Err(ground))),
-            (sheet, judged) => {
+            (_, judged) => {
                 let ground = judged.err().unwrap_or_default();
-                Err(Answer::trouble(refusal::text(ground, sheet.as_ref())))
+                Err(Answer::trouble(self.refused(ground)))
             }
         }
+    }
+
+    /// What is said of a refusal.
+    fn refused(&self, ground: u8) -> String {
+        if let Some(sheet) = &self.sheet {
+            return refusal::told(ground, sheet, &self.file);
+        }
+        Taken::Sheet.in_bytes(&self.bytes, &refusal::text(ground, None)).within(&self.file)
     }
 }
 
 fn judged(input: &Input) -> Answer {
     match input.formed() {
         Ok((sheet, Ok(judgement))) => Answer::output(judge::text(sheet, &judgement)),
-        Ok((sheet, Err(ground))) => Answer::trouble(refusal::text(ground, Some(sheet))),
+        Ok((_, Err(ground))) => Answer::trouble(input.refused(ground)),
         Err(refused) => refused,
     }
 }
@@ -118,7 +171,7 @@ fn plain(input: &Input) -> Answer {
     let refused = library::judge(&input.bytes).err();
     Answer {
         output: library::report(&input.bytes),
-        trouble: refused.map(|ground| refusal::text(ground, input.sheet.as_ref())),
+        trouble: refused.map(|ground| input.refused(ground)),
     }
 }
 

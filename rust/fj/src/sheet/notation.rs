@@ -1,13 +1,7 @@
 //! The notation of sheets: reading it. docs/SHEETS.md describes it.
 
 use super::model::{Mark, Sheet, Site, State, Transition, MARKS};
-
-/// What is wrong with a notation, and in which line.
-#[derive(Clone, Debug, PartialEq, Eq)]
-pub struct Error {
-    pub line: usize,
-    pub reason: String,
-}
+use crate::place::Error;
 
 /// What a line's part gives, or the reason why it gives nothing.
 type Said<T> = Result<T, String>;

@@ -2,43 +2,80 @@
 
 use super::model::{Mark, Sheet, Transition};
 use crate::grounds::sentence;
+use crate::place::Error;
 use std::collections::BTreeSet;
 
-/// `refused 26: a transition reads nothing (line 12: 1: q -> w)`
+/// The most transitions of a sheet.
+const TRANSITIONS: usize = 64;
+
+/// Where a ground shows: the line of a transition in the notation, 0 where there is none, and what
+/// stands there.
+struct Spot {
+    line: usize,
+    words: String,
+}
+
+/// `refused 26: a transition reads nothing (1: q -> w)`
 pub fn text(ground: u8, sheet: Option<&Sheet>) -> String {
-    let place = sheet.and_then(|sheet| place(ground, sheet));
-    let place = place.map_or(String::new(), |place| format!(" ({place})"));
+    worded(ground, &sheet.map_or(Vec::new(), |sheet| spots(ground, sheet)))
+}
+
+/// The refusal of the sheet in a file, and a line more for each other place where it shows.
+pub fn told(ground: u8, sheet: &Sheet, file: &str) -> String {
+    let spots = spots(ground, sheet);
+    let line = spots.first().map_or(0, |spot| spot.line);
+    let mut told = Error { line, reason: worded(ground, &spots) }.within(file);
+    for Spot { line, words } in spots.into_iter().skip(1).filter(|spot| spot.line > 0) {
+        told += &format!("\n{}", Error { line, reason: words }.within(file));
+    }
+    told
+}
+
+fn worded(ground: u8, spots: &[Spot]) -> String {
+    let words: Vec<&str> = spots.iter().map(|spot| &*spot.words).collect();
+    let place = match words.is_empty() {
+        true => String::new(),
+        false => format!(" ({})", words.join(" and ")),
+    };
     format!("refused {ground}: {}{place}", sentence(ground))
 }
 
 /// Where in the sheet a ground shows.
-fn place(ground: u8, sheet: &Sheet) -> Option<String> {
+fn spots(ground: u8, sheet: &Sheet) -> Vec<Spot> {
     let first = |holds: &dyn Fn(&Transition) -> bool| {
         let found = sheet.transitions.iter().position(holds);
-        found.map(|number| described(sheet, number))
+        found.map(|number| described(sheet, number)).into_iter().collect()
     };
     let mark = |t: &Transition, state| sheet.state((t.site, state)).mark;
     match ground {
-        23 => Some(counts(sheet)),
-        24 => Some(format!("{} transitions", sheet.transitions.len())),
+        23 => vec![Spot { line: 0, words: counts(sheet) }],
+        24 => vec![many(sheet)],
         26 => first(&|t| t.reads == 0),
         27 => read_twice(sheet),
         28 => first(&|t| mark(t, t.from) != Mark::Working && mark(t, t.from) != mark(t, t.to)),
-        29 => (1..=sheet.sites.len()).find_map(|site| cycle(sheet, site as u8)),
-        31 => clash(sheet),
-        _ => None,
+        29 => {
+            (1..).zip(&sheet.sites).find_map(|(site, _)| cycle(sheet, site)).into_iter().collect()
+        }
+        31 => clash(sheet).into_iter().collect(),
+        _ => Vec::new(),
     }
 }
 
-/// A transition by its line, or by its number where the sheet came as bytes.
-fn described(sheet: &Sheet, number: usize) -> String {
+/// A transition, with its number where the sheet came as bytes.
+fn described(sheet: &Sheet, number: usize) -> Spot {
     let t = sheet.transitions[number];
     let name = |state| &sheet.state((t.site, state)).name;
     let place = match t.line {
-        0 => format!("transition {}", number + 1),
-        line => format!("line {line}"),
+        0 => format!("transition {}, ", number + 1),
+        _ => String::new(),
     };
-    format!("{place}, {}: {} -> {}", t.site, name(t.from), name(t.to))
+    let words = format!("{place}{}: {} -> {}", t.site, name(t.from), name(t.to));
+    Spot { line: t.line, words }
+}
+
+/// A message at a transition.
+fn of_message(name: &str, spot: Spot) -> Spot {
+    Spot { words: format!("{name} at {}", spot.words), ..spot }
 }
 
 fn counts(sheet: &Sheet) -> String {
@@ -46,19 +83,26 @@ fn counts(sheet: &Sheet) -> String {
     format!("{} sites with {} states", counts.len(), counts.join(", "))
 }
 
+/// How many transitions there are, and the first that is too many.
+fn many(sheet: &Sheet) -> Spot {
+    let line = sheet.transitions.get(TRANSITIONS).map_or(0, |t| t.line);
+    Spot { line, words: format!("{} transitions", sheet.transitions.len()) }
+}
+
 /// The first message that two sites read, and where.
-fn read_twice(sheet: &Sheet) -> Option<String> {
+fn read_twice(sheet: &Sheet) -> Vec<Spot> {
     let reads = |m: usize, t: &Transition| t.reads >> m & 1 == 1;
-    sheet.messages.iter().enumerate().find_map(|(m, name)| {
+    let found = sheet.messages.iter().enumerate().find_map(|(m, name)| {
         let one = sheet.transitions.iter().position(|t| reads(m, t))?;
         let site = sheet.transitions[one].site;
         let other = sheet.transitions.iter().position(|t| reads(m, t) && t.site != site)?;
-        Some(format!("{name}: {} and {}", described(sheet, one), described(sheet, other)))
-    })
+        Some([one, other].map(|number| of_message(name, described(sheet, number))))
+    });
+    found.into_iter().flatten().collect()
 }
 
-/// A cycle of a site as the states on it, where there is one.
-fn cycle(sheet: &Sheet, site: u8) -> Option<String> {
+/// A cycle of a site as the states on it, where there is one, with the transition that closes it.
+fn cycle(sheet: &Sheet, site: u8) -> Option<Spot> {
     let states = sheet.sites[usize::from(site) - 1].states.len() as u8;
     let goes = |from: u8, to: u8| {
         sheet.transitions.iter().any(|t| (t.site, t.from, t.to) == (site, from, to))
@@ -73,17 +117,19 @@ fn cycle(sheet: &Sheet, site: u8) -> Option<String> {
         let here = walk[walk.len() - 1];
         let next = *left.iter().find(|&&to| goes(here, to))?;
         if let Some(start) = walk.iter().position(|&state| state == next) {
+            let closes = |t: &&Transition| (t.site, t.from, t.to) == (site, here, next);
+            let line = sheet.transitions.iter().find(closes)?.line;
             let ring = walk[start..].iter().chain([&next]);
             let names: Vec<&str> = ring.map(|&s| &*sheet.state((site, s)).name).collect();
-            return Some(format!("site {site}: {}", names.join(" -> ")));
+            return Some(Spot { line, words: format!("site {site}: {}", names.join(" -> ")) });
         }
         walk.push(next);
     }
 }
 
-/// A transition that writes what is outstanding already, found by walking through the local states
-/// and outstanding messages that are reachable.
-fn clash(sheet: &Sheet) -> Option<String> {
+/// A transition that writes what is still outstanding after its reading, found by walking through
+/// the local states and outstanding messages that are reachable.
+fn clash(sheet: &Sheet) -> Option<Spot> {
     let first = (vec![0; sheet.sites.len()], sheet.first);
     let mut seen = BTreeSet::from([first.clone()]);
     let mut open = vec![first];
@@ -96,7 +142,7 @@ fn clash(sheet: &Sheet) -> Option<String> {
             let left = outstanding & !t.reads;
             if left & t.writes != 0 {
                 let names = sheet.names(left & t.writes).join(" ");
-                return Some(format!("{names}: {}", described(sheet, number)));
+                return Some(of_message(&names, described(sheet, number)));
             }
             let mut next = (states.clone(), left | t.writes);
             next.0[site] = t.to;

@@ -2,6 +2,7 @@
 
 use super::model::Sheet;
 use super::{draw, judge, library, notation, refusal, show, taken, Input};
+use crate::input::{is_text, Content};
 use compare::inputs::{figures, sheets, Random};
 
 /// A protocol with two sites; `more` follows it.
@@ -22,11 +23,11 @@ fn error(more: &str) -> (usize, String) {
     (error.line, error.reason)
 }
 
-/// The refusal of a notation in words.
+/// What is said of the refusal of a notation.
 fn refused(more: &str) -> String {
     let sheet = read(more);
     let ground = library::judge(&sheet.bytes()).expect_err("the sheet is refused");
-    refusal::text(ground, Some(&sheet))
+    refusal::told(ground, &sheet, "two.sheet")
 }
 
 fn gallery(name: &str) -> String {
@@ -76,37 +77,60 @@ fn an_error_names_its_line_and_the_reason() {
 #[test]
 fn a_refusal_shows_its_place() {
     let refusals = [
-        ("1: q -> c writes done", "refused 26: a transition reads nothing (line 10, 1: q -> c)"),
+        (
+            "1: q -> c writes done",
+            "two.sheet:10: refused 26: a transition reads nothing (1: q -> c)",
+        ),
         (
             "1: q -> c reads go\n2: q -> c reads go",
-            "refused 27: a message is read by two sites (go: line 10, 1: q -> c and line 11, 2: q -> c)",
+            "two.sheet:10: refused 27: a message is read by two sites (go at 1: q -> c and go at 2: q -> c)\n\
+             two.sheet:11: go at 2: q -> c",
         ),
         (
             "1: c -> a reads go",
-            "refused 28: a transition leads from an abort or commit state to a state of another mark (line 10, 1: c -> a)",
+            "two.sheet:10: refused 28: a transition leads from an abort or commit state to a state of another mark (1: c -> a)",
         ),
         (
             "state w working\n2: q -> w reads done\n2: w -> q reads done",
-            "refused 29: a site can come back to a state that it has left (site 2: q -> w -> q)",
+            "two.sheet:12: refused 29: a site's diagram has a cycle, whatever the messages allow (site 2: q -> w -> q)",
         ),
         (
             "messages more\n1: q -> c reads go writes more\n1: c -> c reads go",
-            "refused 29: a site can come back to a state that it has left (site 1: c -> c)",
+            "two.sheet:12: refused 29: a site's diagram has a cycle, whatever the messages allow (site 1: c -> c)",
         ),
         (
             "site 3",
-            "refused 23: the number of sites is not 2 to 4, or a site's number of states is not 1 to 8 (3 sites with 3, 2, 0 states)",
+            "two.sheet: refused 23: the number of sites is not 2 to 4, or a site's number of states is not 1 to 8 (3 sites with 3, 2, 0 states)",
         ),
     ];
     for (more, text) in refusals {
         assert_eq!(refused(more), text);
     }
+    let many = "two.sheet:74: refused 24: the sheet has more or fewer bytes than its counts give, or over 64 transitions (66 transitions)";
+    assert_eq!(refused(&"1: q -> c reads go\n".repeat(66)), many);
+}
+
+#[test]
+fn a_refusal_of_bytes_shows_the_number_of_the_transition() {
+    let bytes = read("1: q -> c reads go\n2: q -> c reads go").bytes();
+    let sheet = Sheet::from_bytes(&bytes).expect("the bytes have the form of a sheet");
+    let told = "two: refused 27: a message is read by two sites (m0 at transition 1, 1: s0 -> s1 and m0 at transition 2, 2: s0 -> s1)";
+    assert_eq!(refusal::told(27, &sheet, "two"), told);
+}
+
+/// Takes a file's content as `fj` reads it.
+fn given(data: &[u8]) -> Result<Input, String> {
+    let content = match is_text(data) {
+        true => Content::Text(String::from_utf8_lossy(data).into_owned()),
+        false => Content::Bytes(data.to_vec(), false),
+    };
+    taken("two.sheet".to_string(), content)
 }
 
 #[test]
 fn bytes_and_text_are_told_apart() {
     let bytes = read("1: q -> c reads go").bytes();
-    let input = |data: &[u8]| taken(data.to_vec()).map(|input: Input| input.sheet.is_some());
+    let input = |data: &[u8]| given(data).map(|input| input.sheet.is_some());
     assert_eq!(input(&bytes), Ok(true));
     assert_eq!(input(&bytes[1..]), Ok(false));
     assert_eq!(input(b""), Ok(false));
@@ -144,8 +168,9 @@ fn a_clash_shows_the_message_and_the_transition() {
     let text = small("").replace("first go", "first go done") + "1: q -> c reads go writes done";
     let sheet = notation::read(&text).expect("the notation is good");
     assert_eq!(library::judge(&sheet.bytes()).err(), Some(31));
-    let refusal = "refused 31: a message can be written while it is still outstanding (done: line 10, 1: q -> c)";
+    let refusal = "refused 31: a transition can write a message that is still outstanding after its reading (done at 1: q -> c)";
     assert_eq!(refusal::text(31, Some(&sheet)), refusal);
+    assert_eq!(refusal::told(31, &sheet, "two.sheet"), format!("two.sheet:10: {refusal}"));
 }
 
 /// The gallery's central and decentralised protocols agree with the sheets that the comparison with
