@@ -1,4 +1,4 @@
--- A record's body and its event; which bodies are an event's own; what follows.
+-- The fields of an event: the range of each; the event that they tell; what follows.
+pub mod Ranges
 pub mod Fields
-pub mod Own
 pub mod FieldsLaws
