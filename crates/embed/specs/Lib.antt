@@ -4,4 +4,5 @@ pub mod SiteCall
 pub mod RunCalls
 pub mod BytesLaws
 pub mod RecordCalls
+pub mod RecordCallsLaws
 pub mod SheetCalls
