@@ -1,4 +1,2 @@
--- What the proofs of the calls share: parts of a slice, the bytes of a run, and how a call ends.
+-- What the proofs of the calls share.
 pub mod Calls
-pub mod Parts
-pub mod RunBytes

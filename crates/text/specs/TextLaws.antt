@@ -1,6 +1,6 @@
--- Laws of text in lent bytes: parts put one after another are their text put at once.
+-- Laws of text in lent bytes: parts put one after another are their text put at once; bytes one by one.
 -- Assumes nothing.
-use Prim.Native.Nat.{ℕ, _+_, _-_, _≤_, _<_}
+use Prim.Native.Nat.{ℕ, zero, suc, _+_, _-_, _≤_, _<_}
 use mathlib.Core.Bool.{true}
 use mathlib.Core.List.{List, [], _∷_, _++_, append-assoc}
 use mathlib.Core.Path.{_≡_, refl, sym, ap, subst, _∙_}
@@ -9,8 +9,8 @@ use borrow.Author.Tests.{le-leb, lt-leb}
 use lib.Dec.{leb}
 use native.Mathlib.Decide.{decLt}
 use native.Mathlib.Numerals.{add-one}
-use lib.ListN.{length, take, drop, set, length-append, length-drop}
-use lib.Seq.{set-split, drop-drop, take-at, drop-at, length-take-le}
+use lib.ListN.{length, getD, take, drop, set, length-append, length-drop}
+use lib.Seq.{set-split, drop-cons, drop-drop, take-at, drop-at, length-take-le}
 use Rattle.text.specs.Text.{fits, spliced, reached, Put}
 
 -- a part that fits is put
@@ -67,3 +67,15 @@ room-left room at size h = go (decLt (room - at) size)
     go : Dec (room - at < size) → leb size (room - at) ≡ leb (at + size) room
     go (yes l) = lt-leb size (room - at) l ∙ sym (lt-leb (at + size) room (omega arith))
     go (no l) = le-leb size (room - at) (omega arith) ∙ sym (le-leb (at + size) room (omega arith))
+
+-- ---- bytes one by one
+
+-- so many bytes of a text from a place on
+abbrev pub bytesFrom : ℕ → ℕ → List ℕ → List ℕ
+bytesFrom zero at text = []
+bytesFrom (suc n) at text = getD text at 0 ∷ bytesFrom n (suc at) text
+
+pub one-by-one : (n at : ℕ) (text : List ℕ) → at + n ≤ length text → take n (drop at text) ≡ bytesFrom n at text
+one-by-one zero at text h = refl
+one-by-one (suc n) at text h =
+    rw (drop-cons text at 0 (omega arith)) (ap (λ (z : List ℕ). getD text at 0 ∷ z) (one-by-one n (suc at) text (omega arith)))

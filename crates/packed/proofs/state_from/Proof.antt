@@ -1,8 +1,8 @@
--- `embed::site_calls::state_from` meets its contract.
+-- `packed::state_from` meets its contract.
 -- Assumes nothing.
 use borrow.Author.Tests.{ne-eqb}
-use Rattle.embed.proofs.site_calls.state_from.Statement.{statement}
-use Rattle.embed.proofs.site_calls.state_from.Tie as tie
+use Rattle.packed.proofs.state_from.Statement.{statement}
+use Rattle.packed.proofs.state_from.Tie as tie
 
 returns : tie.Need-returns
 returns c = simp (c .match .keys1)
