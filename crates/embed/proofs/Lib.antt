@@ -1,4 +1,3 @@
--- What the proofs of the calls share: parts of a slice, the bytes of a run, and how a call ends.
+-- The round trip of records through the calls, and what the proofs of the calls share.
+pub mod RecordCallsLaws
 pub mod Calls
-pub mod Parts
-pub mod RunBytes

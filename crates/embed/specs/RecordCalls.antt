@@ -5,12 +5,10 @@ use mathlib.Core.Bool.{cond}
 use mathlib.Core.List.{List, _++_}
 use lib.Dec.{ltb}
 use lib.ListN.{length, drop}
-use Rattle.fields.specs.declared.Made.{Made}
-use Rattle.fields.specs.declared.Made.the-variants as made
-use Rattle.fields.specs.Fields.{body, fieldsFrom, eventFrom}
+use Rattle.fields.specs.Fields.{body, fieldsFrom}
 use Rattle.journal.specs.declared.Found.{Found}
 use Rattle.journal.specs.declared.Found.the-variants.{Good, Bad}
-use Rattle.journal.specs.Record.{bodyOf, readOf, refusalOf, placedOf}
+use Rattle.journal.specs.Record.{bodyOf, readOf, refusalFor, placedFor}
 use Rattle.transcript.specs.Transcript.{sizeIn, shownIn}
 use Rattle.embed.specs.Bytes.{Left, leaves}
 
@@ -27,14 +25,9 @@ readCall journal at room = cond (ltb (length room) 6) (leaves 15 room) (readLeav
 
 -- ---- `fj_record_write`
 
--- the writer's 14 and 15, and the nine bytes from a place on
-abbrev pub writeLeaves : Made → List ℕ → ℕ → Left
-writeLeaves (made.Good e) room at = leaves (refusalOf (drop at room) e) (placedOf room at e)
-writeLeaves (made.Bad g) room at = leaves g room
-
--- 13 and 14 as the fields have it come first
+-- the writer's 13, 14 and 15 for these fields, and the record in the nine bytes from a place on
 unfoldable pub writeCall : ℕ → ℕ → ℕ → ℕ → ℕ → ℕ → List ℕ → ℕ → Left
-writeCall k s o m v x room at = writeLeaves (eventFrom (body k s o m v x)) room at
+writeCall k s o m v x room at = leaves (refusalFor (drop at room) (body k s o m v x)) (placedFor room at (body k s o m v x))
 
 -- ---- `fj_rehearse`
 

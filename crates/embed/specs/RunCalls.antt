@@ -1,43 +1,24 @@
 -- `fj_run_fresh` and `fj_run_event`: what they return, and what they leave of the slices.
 -- Assumes nothing.
-use Prim.Native.Nat.{ℕ, _+_, _*_}
-use mathlib.Core.Bool.{Bool, cond, _&&_}
-use mathlib.Core.List.{List, [], _∷_, _++_, map, flatMap}
-use lib.Dec.{eqb, ltb, leb}
-use lib.ListN.{length, getD, take, drop}
-use Rattle.site.specs.Step.{groundOf}
-use Rattle.run.specs.declared.Run.{Run}
+use Prim.Native.Nat.{ℕ}
+use mathlib.Core.Bool.{cond}
+use mathlib.Core.List.{List, [], _∷_, _++_}
+use lib.Dec.{eqb, ltb}
+use lib.ListN.{length, drop}
+use Rattle.site.specs.Step.{numberOf}
 use Rattle.run.specs.declared.Ran.{Ran}
-use Rattle.run.specs.Sound.{every}
-use Rattle.run.specs.Event.{freshOf, eventOf}
+use Rattle.run.specs.Event.{freshOf, nextOf}
 use Rattle.fields.specs.declared.Made.{Made}
 use Rattle.fields.specs.declared.Made.the-variants.{Good, Bad}
 use Rattle.fields.specs.Fields.{body, eventFrom}
-use Rattle.embed.specs.Bytes.{siteBytes, siteFrom, outcomeByte, Left, leaves, LeftBoth, leavesBoth, called}
-
--- ---- a run as bytes: n, stopped, eight site records, 72 bytes of network
-
-unfoldable pub runBytes : Run → List ℕ
-runBytes r = r .n ∷ r .stopped ∷ flatMap siteBytes (r .sites) ++ r .net
-
-unfoldable pub runFrom : List ℕ → Run
-runFrom l =
-    record {
-      n = getD l 0 0;
-      stopped = getD l 1 0;
-      sites = map (siteFrom l) (2 ∷ 10 ∷ 18 ∷ 26 ∷ 34 ∷ 42 ∷ 50 ∷ 58 ∷ []);
-      net = take 72 (drop 66 l);
-    }
-
--- 1 is given where this is false: 138 bytes, with one of the five states at each of the eight places
-unfoldable pub isRun : List ℕ → Bool
-isRun l = eqb (length l) 138 && every 8 (λ (i : ℕ). leb (getD l (8 * i + 4) 0) 4)
+use Rattle.packed.specs.Bytes.{runSize, runBytes, isRunBytes, runIn}
+use Rattle.embed.specs.Bytes.{outcomeByte, Left, leaves, LeftBoth, leavesBoth, called}
 
 -- ---- `fj_run_fresh`
 
--- 15 for a slice that is not 138 bytes, with nothing touched; else the fresh run's bytes, also those of a refused one
+-- 15 for a slice that is not a run's size, with nothing touched; else the fresh run's bytes, also those of a refused one
 unfoldable pub freshCall : ℕ → List ℕ → Left
-freshCall n l = cond (eqb (length l) 138) (leaves (groundOf (freshOf n .outcome)) (runBytes (freshOf n .run))) (leaves 15 l)
+freshCall n l = cond (eqb (length l) runSize) (leaves (numberOf (freshOf n .outcome)) (runBytes (freshOf n .run))) (leaves 15 l)
 
 -- ---- `fj_run_event`
 
@@ -55,11 +36,11 @@ ranLeaves a run room = called (a .outcome) run (runBytes (a .run)) (ranBytes a +
 
 -- what the fields come to: the event that they tell happens to the run, or their ground is the refusal
 abbrev pub happening : Made → List ℕ → List ℕ → LeftBoth
-happening (Good e) run room = ranLeaves (eventOf (runFrom run) e) run room
+happening (Good e) run room = ranLeaves (nextOf (runIn run) e) run room
 happening (Bad g) run room = noEvent g run room
 
 -- 15 comes first, with nothing touched; then 1, 13 and 14 as the fields have it, then the event's own grounds
 unfoldable pub runCall : List ℕ → ℕ → ℕ → ℕ → ℕ → ℕ → ℕ → List ℕ → LeftBoth
 runCall run k s o m v x room =
     cond (ltb (length room) 3) (leavesBoth 15 run room)
-    (cond (isRun run) (happening (eventFrom (body k s o m v x)) run room) (noEvent 1 run room))
+    (cond (isRunBytes run) (happening (eventFrom (body k s o m v x)) run room) (noEvent 1 run room))

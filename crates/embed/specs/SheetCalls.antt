@@ -9,7 +9,7 @@ use lib.ListN.{length, drop, replicate}
 use Rattle.judge.specs.declared.Local.{Local}
 use Rattle.judge.specs.declared.Verdict.{Verdict}
 use Rattle.judge.specs.Outcome.{refusedBy, Outcome}
-use Rattle.judge.specs.OutcomeLaws.{Same, one-outcome}
+use Rattle.judge.proofs.OutcomeLaws.{Same, one-outcome}
 
 -- ---- a verdict as bytes
 

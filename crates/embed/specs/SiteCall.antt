@@ -3,21 +3,18 @@
 use Prim.Native.Nat.{ℕ}
 use mathlib.Core.Bool.{Bool, cond, _&&_}
 use mathlib.Core.List.{List, [], _∷_, _++_}
-use lib.Dec.{eqb, ltb, leb}
-use lib.ListN.{length, getD, drop}
+use lib.Dec.{ltb, leb}
+use lib.ListN.{length, drop}
 use Rattle.site.specs.declared.Answer.{Answer}
 use Rattle.site.specs.Step.{stepOf}
 use Rattle.run.specs.declared.Event.the-variants.{Act, Stop, Cut}
 use Rattle.fields.specs.declared.Made.{Made}
 use Rattle.fields.specs.declared.Made.the-variants.{Good, Bad}
 use Rattle.fields.specs.Fields.{body, eventFrom}
-use Rattle.embed.specs.Bytes.{siteBytes, siteFrom, outcomeByte, LeftBoth, leavesBoth, called}
+use Rattle.packed.specs.Bytes.{siteBytes, isSiteBytes, siteIn}
+use Rattle.embed.specs.Bytes.{outcomeByte, LeftBoth, leavesBoth, called}
 
 -- ---- what is asked for
-
--- 1 is given where this is false: eight bytes, with one of the five states
-unfoldable pub isRecord : List ℕ → Bool
-isRecord site = eqb (length site) 8 && leb (getD site 2 0) 4
 
 -- 13 is given where this is false: K is 1 to 5, a begin to a conclude
 unfoldable pub isStep : ℕ → Bool
@@ -39,7 +36,7 @@ stepLeaves a site room = called (a .outcome) site (siteBytes (a .site)) (answerB
 
 -- the step that the fields tell, or 14 as an event's fields have it; with a K of 1 to 5 they tell no stop
 abbrev pub stepping : Made → List ℕ → List ℕ → LeftBoth
-stepping (Good (Act a t)) site room = stepLeaves (stepOf (siteFrom site 0) t) site room
+stepping (Good (Act a t)) site room = stepLeaves (stepOf (siteIn site) t) site room
 stepping (Good (Stop a)) site room = noStep 13 site room
 stepping (Good (Cut a t to)) site room = noStep 13 site room
 stepping (Bad g) site room = noStep g site room
@@ -48,6 +45,6 @@ stepping (Bad g) site room = noStep g site room
 unfoldable pub siteCall : List ℕ → ℕ → ℕ → ℕ → ℕ → List ℕ → LeftBoth
 siteCall site k o m v room =
     cond (ltb (length room) 5) (leavesBoth 15 site room)
-    (cond (isRecord site)
+    (cond (isSiteBytes site)
     (cond (isStep k) (stepping (eventFrom (body k 0 o m v 0)) site room) (noStep 13 site room))
     (noStep 1 site room))

@@ -2,8 +2,9 @@
 
 ghost use mathlib.Core.Path.{_≡_};
 ghost use mathlib.Core.List.{_++_, flatMap};
-ghost use Prim.Native.Nat.{_≤_, _%_};
+ghost use Prim.Native.Nat.{_+_, _≤_, _%_};
 ghost use lib.ListN.{length, drop, replicate};
+ghost use Rattle.text.specs.Text.{Put};
 ghost use Rattle.report.specs.Report.{Reported};
 ghost use Rattle.embed.specs.SheetCalls.{flagOf, flagsOf, localBytes, headBytes, verdictBytes, JudgeCall};
 use judge::Local;
@@ -36,10 +37,10 @@ fn flags(reached: bool, committable: bool) -> u8
     0
 }
 
-// A local state's bytes, put at the front of a part.
-fn put_local(part: &mut [u8], local: Local)
-    requires { ⌜ 6 ≤ length (now part) ⌝ }
-    ensures { λ _. ⌜ now (part .exit) ≡ localBytes local ++ drop 6 (now (part .entry)) ⌝ }
+// Puts a local state's bytes from a place on, and says where they end.
+fn put_local(out: &mut [u8], at: usize, local: Local) -> usize
+    requires { ⌜ at + 6 ≤ length (now out) ⌝ }
+    ensures { λ r. ⌜ Put (now (out .entry)) at (localBytes local) (now (out .exit)) r ⌝ }
 {
     let set = local.concurrent as u64;
     let row = [
@@ -50,24 +51,26 @@ fn put_local(part: &mut [u8], local: Local)
         low_byte(set / 256),
         low_byte(set),
     ];
-    text::put(part, 0, &row);
+    text::put(out, at, &row)
 }
 
-fn put_locals(part: &mut [u8], locals: [Local; 32])
-    requires { ⌜ 192 ≤ length (now part) ⌝ }
-    ensures { λ _. ⌜ now (part .exit) ≡ flatMap localBytes locals ++ drop 192 (now (part .entry)) ⌝ }
+// Puts the local states' bytes from a place on, one after the other, and says where they end.
+fn put_locals(out: &mut [u8], at: usize, locals: [Local; 32]) -> usize
+    requires { ⌜ at + 192 ≤ length (now out) ⌝ }
+    ensures { λ r. ⌜ Put (now (out .entry)) at (flatMap localBytes locals) (now (out .exit)) r ⌝ }
 {
+    let mut to = at;
     for i in 0..32 {
-        let at = 6 * i;
         let local = locals[i];
-        put_local(&mut part[at..], local);
+        to = put_local(out, to, local);
     }
+    to
 }
 
-// What a verdict says of the whole sheet, put at the front.
-fn put_head(out: &mut [u8], verdict: Verdict)
+// Puts what a verdict says of the whole sheet at the front, and says where it ends.
+fn put_head(out: &mut [u8], verdict: Verdict) -> usize
     requires { ⌜ 14 ≤ length (now out) ⌝ }
-    ensures { λ _. ⌜ now (out .exit) ≡ headBytes verdict ++ drop 14 (now (out .entry)) ⌝ }
+    ensures { λ r. ⌜ Put (now (out .entry)) 0 (headBytes verdict) (now (out .exit)) r ⌝ }
 {
     let states = verdict.states as u64;
     let head = [
@@ -86,7 +89,7 @@ fn put_head(out: &mut [u8], verdict: Verdict)
         0,
         0,
     ];
-    text::put(out, 0, &head);
+    text::put(out, 0, &head)
 }
 
 fn put_verdict(out: &mut [u8], verdict: Verdict)
@@ -94,8 +97,8 @@ fn put_verdict(out: &mut [u8], verdict: Verdict)
     ensures { λ _. ⌜ now (out .exit) ≡ verdictBytes verdict ++ drop 206 (now (out .entry)) ⌝ }
 {
     let locals = verdict.locals;
-    put_head(out, verdict);
-    put_locals(&mut out[14..], locals);
+    let at = put_head(out, verdict);
+    put_locals(out, at, locals);
 }
 
 // What a refusal leaves of the room: zeros. It is there for speed: `put_verdict` would write the same, but 32 empty local states one by one

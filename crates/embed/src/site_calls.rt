@@ -2,10 +2,11 @@
 
 ghost use mathlib.Core.Path.{_≡_};
 ghost use mathlib.Core.List.{_∷_, _++_};
-ghost use Prim.Native.Nat.{_+_, _≤_};
+ghost use Prim.Native.Nat.{_≤_};
 ghost use lib.ListN.{length, drop};
-ghost use Rattle.embed.specs.Bytes.{stateByte, stateFrom, siteBytes, siteFrom, outcomeByte, leavesBoth};
-ghost use Rattle.embed.specs.SiteCall.{isRecord, isStep, answerBytes, stepLeaves, stepping, siteCall};
+ghost use Rattle.embed.specs.Bytes.{outcomeByte, leavesBoth};
+ghost use Rattle.embed.specs.SiteCall.{isStep, answerBytes, stepLeaves, stepping, siteCall};
+ghost use Rattle.packed.specs.Bytes.{siteSize, siteIn};
 ghost use Rattle.site.specs.Step.{stepOf};
 ghost use Rattle.fields.specs.Fields.{eventFrom};
 use fields::Fields;
@@ -14,33 +15,7 @@ use fields::event_of;
 use run::Event;
 use site::Answer;
 use site::Outcome;
-use site::Site;
-use site::State;
 use site::Step;
-
-fn state_byte(state: State) -> u8
-    ensures { λ r. ⌜ r ≡ stateByte state ⌝ }
-{
-    match state {
-        State::Q => 0,
-        State::W => 1,
-        State::P => 2,
-        State::A => 3,
-        State::C => 4,
-    }
-}
-
-fn state_from(b: u8) -> State
-    ensures { λ r. ⌜ r ≡ stateFrom b ⌝ }
-{
-    match b {
-        0 => State::Q,
-        1 => State::W,
-        2 => State::P,
-        3 => State::A,
-        _ => State::C,
-    }
-}
 
 pub(crate) fn outcome_byte(outcome: Outcome) -> u8
     ensures { λ r. ⌜ r ≡ outcomeByte outcome ⌝ }
@@ -50,53 +25,6 @@ pub(crate) fn outcome_byte(outcome: Outcome) -> u8
         Outcome::Passed => 1,
         Outcome::Refused(_) => 2,
     }
-}
-
-// The site whose bytes stand at a place.
-pub(crate) fn site_from(bytes: &[u8], at: usize) -> Site
-    requires { ⌜ at + 8 ≤ length (now bytes) ⌝ }
-    ensures { λ r. ⌜ r ≡ siteFrom (now (bytes .entry)) at ⌝ }
-{
-    let part = &bytes[at..];
-    Site {
-        n: part[0],
-        number: part[1],
-        state: state_from(part[2]),
-        leader: part[3],
-        known: part[4],
-        yes: part[5],
-        no: part[6],
-        acked: part[7],
-    }
-}
-
-// A site's bytes, put at the front of a part.
-pub(crate) fn put_site(bytes: &mut [u8], site: Site)
-    requires { ⌜ 8 ≤ length (now bytes) ⌝ }
-    ensures { λ _. ⌜ now (bytes .exit) ≡ siteBytes site ++ drop 8 (now (bytes .entry)) ⌝ }
-{
-    let state = site.state;
-    let row = [
-        site.n,
-        site.number,
-        state_byte(state),
-        site.leader,
-        site.known,
-        site.yes,
-        site.no,
-        site.acked,
-    ];
-    text::put(bytes, 0, &row);
-}
-
-// Are these the bytes of a record?
-fn is_record(bytes: &[u8]) -> bool
-    ensures { λ r. ⌜ r ≡ isRecord (now (bytes .entry)) ⌝ }
-{
-    if bytes.len() != 8 {
-        return false;
-    }
-    bytes[2] <= 4
 }
 
 // Is this the K of a step?
@@ -132,22 +60,21 @@ fn put_answer(room: &mut [u8], answer: Answer)
 
 // A step of the site whose bytes these are. Returns 0 or the step's own refusal.
 fn take_step(site: &mut [u8], step: Step, answer: &mut [u8]) -> u8
-    requires { ⌜ (length (now site) ≡ 8) × (5 ≤ length (now answer)) ⌝ }
-    ensures { λ r. ⌜ leavesBoth r (now (site .exit)) (now (answer .exit)) ≡ stepLeaves (stepOf (siteFrom (now (site .entry)) 0) step) (now (site .entry)) (now (answer .entry)) ⌝ }
+    requires { ⌜ (length (now site) ≡ siteSize) × (5 ≤ length (now answer)) ⌝ }
+    ensures { λ r. ⌜ leavesBoth r (now (site .exit)) (now (answer .exit)) ≡ stepLeaves (stepOf (siteIn (now (site .entry))) step) (now (site .entry)) (now (answer .entry)) ⌝ }
 {
-    let given = site_from(site, 0).step(step);
+    let given = packed::read_site(site).step(step);
     put_answer(answer, given);
     let outcome = given.outcome;
     if let Outcome::Refused(ground) = outcome {
         return ground;
     }
-    put_site(site, given.site);
-    0
+    packed::write_site(site, given.site)
 }
 
 // The step that the fields tell, or 14. Returns 0 or the refusal.
 fn take_fields(site: &mut [u8], fields: Fields, answer: &mut [u8]) -> u8
-    requires { ⌜ (length (now site) ≡ 8) × (5 ≤ length (now answer)) ⌝ }
+    requires { ⌜ (length (now site) ≡ siteSize) × (5 ≤ length (now answer)) ⌝ }
     ensures { λ r. ⌜ leavesBoth r (now (site .exit)) (now (answer .exit)) ≡ stepping (eventFrom fields) (now (site .entry)) (now (answer .entry)) ⌝ }
 {
     let made = event_of(fields);
@@ -168,7 +95,7 @@ pub extern "C" fn fj_site_step(site: &mut [u8], k: u8, o: u8, m: u8, v: u8, answ
     if answer.len() < 5 {
         return 15;
     }
-    if !is_record(site) {
+    if !packed::is_site(site) {
         return refuse(answer, 1);
     }
     if !is_step(k) {

@@ -1,4 +1,3 @@
--- A record's body and its event; which bodies are an event's own; what follows.
+-- The fields of an event: the range of each, and the event that they tell.
+pub mod Ranges
 pub mod Fields
-pub mod Own
-pub mod FieldsLaws

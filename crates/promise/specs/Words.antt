@@ -10,7 +10,7 @@ use Rattle.site.specs.declared.Outcome.the-variants.{Taken}
 use Rattle.site.specs.declared.Step.the-variants.{Begin, Start}
 use Rattle.run.specs.declared.Run.{Run}
 use Rattle.run.specs.declared.Event.{Event}
-use Rattle.run.specs.declared.Event.the-variants.{Act, Cut}
+use Rattle.run.specs.declared.Event.the-variants.{Act, Stop, Cut}
 use Rattle.run.specs.Event.{eventOf}
 use Rattle.run.specs.After.{acceptedBy, after}
 
@@ -25,6 +25,12 @@ reached n es = after n es .run
 -- The event e would be accepted in the run r.
 abbrev pub Accepts : Run → Event → Type 0
 Accepts r e = acceptedBy (eventOf r e .outcome) ≡ 1
+
+-- An event that is a stop, plain or during a step.
+abbrev pub IsStop : Event → Type 0
+IsStop (Act s t) = ⊥
+IsStop (Stop s) = Unit
+IsStop (Cut s t x) = Unit
 
 -- Site j votes yes somewhere in a list of events of a run: at a taken Begin yes; at a Start taken with yes, by which Yes leaves;
 -- or at a stop inside such a delivery, if X names site 1, so that Yes still leaves.

@@ -12,9 +12,9 @@ use lib.Dec.{eqb, ltb}
 use lib.ListN.{length, getD, length-append}
 use Rattle.text.specs.Said.{said}
 use Rattle.text.specs.Decimal.{decimal}
-use Rattle.text.specs.DecimalLaws.{width-decimal}
+use Rattle.text.proofs.DecimalLaws.{width-decimal}
 use Rattle.sets.specs.Sets.{bit}
-use Rattle.sets.specs.SetLaws.{one-if}
+use Rattle.sets.proofs.SetLaws.{one-if}
 use Rattle.sheet.specs.Index.{sumBelow}
 use Rattle.sheet.specs.Fine.{Fine}
 use Rattle.sheet.specs.declared.Sheet.{Sheet}

@@ -1,63 +1,22 @@
--- Pieces put one after another: what is done, what is left, and that it fits.
+-- Words, names and members as pieces of the report, and a piece for each number below k.
 -- Assumes nothing.
 use Prim.Native.Nat.{ℕ, zero, suc, _+_, _-_, _/_, _%_, _≤_, _<_}
 use mathlib.Core.Bool.{Bool, true, false}
-use mathlib.Core.List.{List, [], _∷_, _++_, append-assoc, append-nil, flatten}
-use mathlib.Core.Path.{_≡_, refl, sym, ap, subst, subst⁻¹, _∙_}
+use mathlib.Core.List.{List, [], _∷_, _++_, flatten}
+use mathlib.Core.Path.{_≡_, sym, ap, subst, subst⁻¹, _∙_}
 use native.Mathlib.Omega.{arith}
 use native.Mathlib.Nat.{add-zero}
-use lib.ListN.{length, take, drop, length-append, take-append-drop}
+use lib.ListN.{length, length-append}
 use borrow.Author.Tests.{lt-ltb, le-ltb}
 use lib.Dec.{ltb}
 use native.Mathlib.Numerals.{add-one}
 use native.Mathlib.Decide.{decLt}
 use Rattle.text.specs.Text.{Put, reached, spliced}
-use Rattle.text.specs.TextLaws.{put-fits, put-then, put-length}
+use Rattle.text.proofs.TextLaws.{put-fits, put-then, put-length}
+use Rattle.text.proofs.Putting.{put-none, Going, begin, next-by}
 use Rattle.text.specs.Said.{said}
-use Rattle.text.specs.DecimalLaws.{decimal-one}
+use Rattle.text.proofs.DecimalLaws.{decimal-one}
 use Rattle.report.specs.Report.{upTo, nameOf, memberOf}
-
--- nothing is put
-pub put-none : (text : List ℕ) (at : ℕ) → at ≤ length text → Put text at [] text at
-put-none text at h =
-    record {
-      room = omega arith;
-      to = omega arith;
-      bytes = sym (ap (λ (k : ℕ). take at text ++ drop k text) (add-zero at) ∙ take-append-drop at text);
-    }
-
--- of the text x, the pieces ps are left, and there is room for them
-pub record Going (text : List ℕ) (at : ℕ) (x : List ℕ) (ps : List (List ℕ)) (last : List ℕ) (r : ℕ) : Type 0 where
-  pub done : List ℕ
-  pub put : Put text at done last r
-  pub room : r + length (flatten ps) ≤ length last
-  pub is : done ++ flatten ps ≡ x
-
-pub begin : (text : List ℕ) (at : ℕ) (ps : List (List ℕ)) → at + length (flatten ps) ≤ length text → Going text at (flatten ps) ps text at
-begin text at ps h = record { done = []; put = put-none text at (omega arith); room = h; is = refl }
-
-module _ {text x last : List ℕ} {at r : ℕ} {b : List ℕ} {ps : List (List ℕ)} (g : Going text at x (b ∷ ps) last r) where
-  -- the next piece fits
-  pub fits-next : r + length b ≤ length last
-  unfolding flatten
-  fits-next = omega (arith, g .room, length-append b (flatten ps))
-
-  pub next : {v : List ℕ} {q : ℕ} → Put last r b v q → Going text at x ps v q
-  unfolding flatten
-  next {v} {q} p =
-      record {
-        done = g .done ++ b;
-        put = put-then (g .put) p;
-        room = omega (arith, g .room, length-append b (flatten ps), p .to, put-length p);
-        is = append-assoc (g .done) b (flatten ps) ∙ g .is;
-      }
-
-  pub next-by : {v : List ℕ} {q : ℕ} → (q ≡ reached last r b) × (v ≡ spliced last r b) → Going text at x ps v q
-  next-by {v} {q} e = next (put-fits last r b fits-next e)
-
-pub ended : {text x last : List ℕ} {at r : ℕ} → Going text at x [] last r → Put text at x last r
-unfolding flatten
-ended {text} {x} {last} {at} {r} g = subst (λ (d : List ℕ). Put text at d last r) (sym (append-nil (g .done)) ∙ g .is) (g .put)
 
 -- a word that is the one meant
 pub put-word : (text : List ℕ) (at : ℕ) {part other last : List ℕ} {r : ℕ} → part ≡ other → at + length other ≤ length text

@@ -1,3 +1,2 @@
--- Every byte of the report; then that there is one report for one input.
+-- Every byte of the report.
 pub mod Report
-pub mod ReportLaws

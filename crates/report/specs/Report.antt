@@ -5,7 +5,7 @@ use mathlib.Core.Bool.{Bool, cond}
 use mathlib.Core.List.{List, [], _∷_, _++_, flatten}
 use mathlib.Core.Path.{_≡_}
 use lib.Dec.{eqb, ltb}
-use lib.ListN.{length, getD, drop}
+use lib.ListN.{length, getD, drop, replicate}
 use Rattle.text.specs.Said.{said}
 use Rattle.text.specs.Decimal.{decimal}
 use Rattle.sets.specs.Sets.{bit}
@@ -71,7 +71,7 @@ linesOf s l = upTo (λ p before. lineIn s l p) 32
 
 -- ---- the other lines
 
--- "First line: sites, reachable global states"
+-- "Condition1 line: sites, reachable global states"
 unfoldable pub headLine : ℕ → ℕ → List ℕ
 headLine sites states = flatten (said "sheet " ∷ decimal sites ∷ said " sites " ∷ decimal states ∷ said " states\n" ∷ [])
 
@@ -103,12 +103,18 @@ acceptedText s v =
 unfoldable pub textOf : Sheet → Verdict → List ℕ
 textOf s v = cond (eqb (v .refusal) 0) (acceptedText s v) (refusedLine (v .refusal))
 
--- The longest text has 3,722 bytes: a first line of at most 26, for each of 32 states one of at most 114 (24 states of other sites in its
--- set), a verdict of at most 36 and a tolerance of at most 12.
+-- the longest text has 3,722 bytes: a first line of at most 26, for each of 32 states one of at most 114 (24 states of other sites in its
+-- set), a verdict of at most 36 and a tolerance of at most 12
+abbrev pub longest : ℕ
+longest = 3722
+
+-- room for any report
+unfoldable pub anyRoom : List ℕ
+anyRoom = replicate longest 0
 
 -- what is left of bytes, words and room: with less room than the longest text nothing is touched and the answer is 0; else the sheet is
 -- judged, its text stands at the start, the rest of the room is unchanged, and the answer is the length
 pub data Reported (bytes w₀ w t₀ t : List ℕ) (r : ℕ) : Type 0 where
-  cramped : length t₀ < 3722 → w ≡ w₀ → t ≡ t₀ → r ≡ 0 → Reported bytes w₀ w t₀ t r
-  told : 3722 ≤ length t₀ → (v : Verdict) → Outcome bytes w₀ w v → r ≡ length (textOf (sheetOf bytes) v)
+  cramped : length t₀ < longest → w ≡ w₀ → t ≡ t₀ → r ≡ 0 → Reported bytes w₀ w t₀ t r
+  told : longest ≤ length t₀ → (v : Verdict) → Outcome bytes w₀ w v → r ≡ length (textOf (sheetOf bytes) v)
       → t ≡ textOf (sheetOf bytes) v ++ drop r t₀ → Reported bytes w₀ w t₀ t r

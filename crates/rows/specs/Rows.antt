@@ -1,5 +1,5 @@
 -- 01's starred rows ("Tables to run and compare") as one list, in its order. RowsHold shows that all of them hold.
--- What a row leaves open, as how many sites there are or whom they have heard, may be anything that a sound record can have.
+-- What a row leaves open, as how many sites there are or whom they have heard, may be anything that a sound record can have; row 3 is about a site that knows of no stop.
 -- Assumes nothing.
 use Prim.Native.Nat.{ℕ, _≤_, _<_}
 use mathlib.Core.Bool.{true}

@@ -18,8 +18,8 @@ use Rattle.site.specs.Site.{isW, inState, following, knowing, soundOf, endsOf, 
 use Rattle.site.specs.First.{beginOf, startOf}
 use Rattle.site.specs.Leader.{obeyOf, takeOverOf, settleOf}
 use Rattle.site.specs.Step.{concludeOf, deliverOf, doneOf, answered, stepOf}
-use Rattle.site.specs.SiteSteps.{sound-parts}
-use Rattle.site.specs.SiteLaws.{sound-kept}
+use Rattle.site.proofs.SiteSteps.{sound-parts}
+use Rattle.site.proofs.SiteLaws.{sound-kept}
 use Rattle.run.specs.Run.{freshSite}
 use Rattle.run.specs.Event.{freshOf}
 use Rattle.journal.specs.Record.{lengthOf, fieldsIn, readOf}

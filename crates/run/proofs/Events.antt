@@ -16,16 +16,16 @@ use Rattle.run.specs.declared.Event.{Event}
 use Rattle.run.specs.declared.Reply.the-variants.{Good}
 use Rattle.run.specs.Sound.{soundRun}
 use Rattle.run.specs.Event.{refusedRun, eventOf}
-use Rattle.run.specs.Reply.{settled}
+use Rattle.run.specs.Reply.{replyFrom}
 
 -- taken or passed over, by the variant's number: what the code knows of an outcome that is not refused
 abbrev pub Accepted : Outcome → Type 0
 Accepted o = OneOf (0 ∷ 1 ∷ []) (tagOf the-type o)
 
-pub settled-good : (o : Outcome) (a : Answer) → Accepted o → settled o a ≡ Good a
-settled-good Taken a h = refl
-settled-good Passed a h = refl
-settled-good (Refused g) a h = elim h [ inl e ↦ absurd (omega arith) | inr e ↦ absurd (omega arith) ]
+pub reply-good : (o : Outcome) (a : Answer) → Accepted o → replyFrom o a ≡ Good a
+reply-good Taken a h = refl
+reply-good Passed a h = refl
+reply-good (Refused g) a h = elim h [ inl e ↦ absurd (omega arith) | inr e ↦ absurd (omega arith) ]
 
 -- ground 1
 pub event-unsound : (r : Run) (e : Event) → soundRun r ≡ false → eventOf r e ≡ refusedRun r 1

@@ -1,19 +1,22 @@
--- The events of a run (01, "The run"): what each does, and the grounds 1 to 6 in their order.
+-- The events of a run (01, "The run"): on which of the grounds 1 to 6 one is refused, and what one does that is accepted.
 -- Assumes nothing.
-use Prim.Native.Nat.{ℕ}
-use mathlib.Core.Bool.{Bool, true, cond, not, _&&_}
+use Prim.Native.Nat.{ℕ, zero, suc}
+use mathlib.Core.Bool.{Bool, true, false, cond, not, _&&_}
 use lib.Dec.{leb}
 use Rattle.sets.specs.Sets.{both, countOf}
 use Rattle.site.specs.declared.Outcome.{Outcome}
-use Rattle.site.specs.declared.Outcome.the-variants.{Taken, Passed, Refused}
+use Rattle.site.specs.declared.Outcome.the-variants.{Taken, Refused}
 use Rattle.site.specs.declared.Step.{Step}
 use Rattle.site.specs.declared.Step.the-variants.{Begin, Start, Deliver, Notice, TakeOver, Conclude}
+use Rattle.site.specs.declared.Site.{Site}
 use Rattle.site.specs.declared.Answer.{Answer}
+use Rattle.site.specs.declared.Counts.{Counts}
 use Rattle.site.specs.Site.{start, namesOf}
-use Rattle.site.specs.Step.{stepOf, none}
+use Rattle.site.specs.Step.{stepOf, none, numberOf}
 use Rattle.run.specs.declared.Run.{Run}
 use Rattle.run.specs.declared.Event.{Event}
 use Rattle.run.specs.declared.Event.the-variants.{Act, Stop, Cut}
+use Rattle.run.specs.declared.Effect.{Effect}
 use Rattle.run.specs.declared.Ran.{Ran}
 use Rattle.run.specs.Run.{siteAt, outstanding, hasStopped, knows, withRecord, takenOut, sentBy, stoppedAt, freshRun}
 use Rattle.run.specs.Sound.{soundRun}
@@ -32,7 +35,13 @@ takenRun r m = record { run = r; outcome = Taken; counts = record { written = m;
 unfoldable pub freshOf : ℕ → Ran
 freshOf n = cond (leb 2 n && leb n 8) (takenRun (freshRun n) 0) (refusedRun (freshRun 0) 1)
 
--- ---- who acts, and what must be there before
+-- ---- the grounds, in their order
+
+-- the acting site
+abbrev pub actor : Event → ℕ
+actor (Act s t) = s
+actor (Stop s) = s
+actor (Cut s t x) = s
 
 -- ground 2 is given where this is false: the acting site is one of 1 to n
 unfoldable pub isActor : Run → ℕ → Bool
@@ -47,58 +56,92 @@ isThere r s (Notice o) = hasStopped r o && not (knows r s o)
 isThere r s TakeOver = true
 isThere r s Conclude = true
 
+-- a step of site s, whole or cut short: 2, 3, 4, then the site's own, 5 or 6; 0 where none holds
+unfoldable pub stepGround : Run → ℕ → Step → ℕ
+stepGround r s t =
+    cond (isActor r s && namesOf (siteAt r s) t) (cond (hasStopped r s) 3 (cond (isThere r s t) (numberOf (stepOf (siteAt r s) t .outcome)) 4)) 2
+
+-- a stop: 2, 3
+unfoldable pub stopGround : Run → ℕ → ℕ
+stopGround r s = cond (isActor r s) (cond (hasStopped r s) 3 0) 2
+
+-- "a stop during any of the first five .. is refused as that step would be"
+abbrev pub eventGround : Run → Event → ℕ
+eventGround r (Act s t) = stepGround r s t
+eventGround r (Stop s) = stopGround r s
+eventGround r (Cut s t x) = stepGround r s t
+
 -- ---- what an accepted event does
 
--- "deliver (taken out of the network, even if passed over)"
-abbrev pub delivered : Run → ℕ → Step → Run
-delivered r s (Begin v) = r
-delivered r s (Start from v) = takenOut r start from s
-delivered r s (Deliver k from) = takenOut r k from s
-delivered r s (Notice o) = r
-delivered r s TakeOver = r
-delivered r s Conclude = r
+-- the kind of the message that a step delivers, 0 for none, and its sender: "deliver (taken out of the network, even if passed over)"
+abbrev pub gotBy : Step → ℕ
+gotBy (Begin v) = 0
+gotBy (Start from v) = start
+gotBy (Deliver k from) = k
+gotBy (Notice o) = 0
+gotBy TakeOver = 0
+gotBy Conclude = 0
 
--- a whole step's answer is put into the run: the new record, the delivered message out, the written messages in
-unfoldable pub acted : Run → ℕ → Step → Answer → Run
-acted r s t a = sentBy (withRecord (delivered r s t) s (a .site)) (a .kind) s (a .to)
+abbrev pub gotFrom : Step → ℕ
+gotFrom (Begin v) = 0
+gotFrom (Start from v) = from
+gotFrom (Deliver k from) = from
+gotFrom (Notice o) = 0
+gotFrom TakeOver = 0
+gotFrom Conclude = 0
 
--- a step cut short: the site stops with its record as before the step, and of its messages those to x leave
-unfoldable pub cutShort : Run → ℕ → Answer → ℕ → Run
-cutShort r s a x = sentBy (stoppedAt r s) (a .kind) s (both (a .to) x)
+-- a whole step: the new record, the delivered message out, the written messages in
+abbrev pub wholeStep : Step → Answer → Effect
+wholeStep t a = record { site = a .site; got = gotBy t; from = gotFrom t; kind = a .kind; to = a .to; stops = false }
 
--- the answers: a step reports as the site does; a stop reports what left, and awaits nobody
-abbrev pub ranStep : Outcome → Run → ℕ → Step → Answer → Ran
-ranStep Taken r s t a = record { run = acted r s t a; outcome = Taken; counts = a .counts }
-ranStep Passed r s t a = record { run = acted r s t a; outcome = Passed; counts = a .counts }
-ranStep (Refused g) r s t a = refusedRun r g
+-- a stop: the record stays "as before the step", and messages of one kind to some sites have left
+abbrev pub halting : Site → ℕ → ℕ → Effect
+halting x k to = record { site = x; got = 0; from = 0; kind = k; to = to; stops = true }
 
-abbrev pub ranCut : Outcome → Run → ℕ → Answer → ℕ → Ran
-ranCut Taken r s a x = takenRun (cutShort r s a x) (countOf (both (a .to) x))
-ranCut Passed r s a x = takenRun (cutShort r s a x) (countOf (both (a .to) x))
-ranCut (Refused g) r s a x = refusedRun r g
+-- of the messages that a step writes, a stop inside it lets those to x leave: "receivers it doesn't write to are ignored"
+abbrev pub effectOf : Run → Event → Effect
+effectOf r (Act s t) = wholeStep t (stepOf (siteAt r s) t)
+effectOf r (Stop s) = halting (siteAt r s) 0 0
+effectOf r (Cut s t x) = halting (siteAt r s) (stepOf (siteAt r s) t .kind) (both (stepOf (siteAt r s) t .to) x)
+
+-- a site stops, or not
+abbrev pub haltedAt : Run → ℕ → Bool → Run
+haltedAt r s b = cond b (stoppedAt r s) r
+
+-- what an event of site s does is put into the run: its record, the message taken out, its stop, the messages that leave
+unfoldable pub applied : Run → ℕ → Effect → Run
+applied r s x = sentBy (haltedAt (takenOut (withRecord r s (x .site)) (x .got) (x .from) s) s (x .stops)) (x .kind) s (x .to)
+
+-- "a passed delivery" is passed; any accepted stop is taken
+abbrev pub outcomeOf : Run → Event → Outcome
+outcomeOf r (Act s t) = stepOf (siteAt r s) t .outcome
+outcomeOf r (Stop s) = Taken
+outcomeOf r (Cut s t x) = Taken
+
+-- a step reports as the site does; a stop "counts only messages that leave", and "After any stop the awaited number is 0"
+abbrev pub reportOf : Run → Event → Counts
+reportOf r (Act s t) = stepOf (siteAt r s) t .counts
+reportOf r (Stop s) = none
+reportOf r (Cut s t x) = record { written = countOf (both (stepOf (siteAt r s) t .to) x); awaited = 0 }
 
 -- ---- the event
 
--- grounds 2 to 4 for a step of site s, whole or cut short; then what follows, where none holds
-unfoldable pub grounded : Run → ℕ → Step → Ran → Ran
-grounded r s t x =
-    cond (isActor r s && namesOf (siteAt r s) t) (cond (hasStopped r s) (refusedRun r 3) (cond (isThere r s t) x (refusedRun r 4))) (refusedRun r 2)
-
--- grounds 2 and 3 for a stop
-unfoldable pub stopped : Run → ℕ → Ran
-stopped r s =
-    cond (isActor r s) (cond (hasStopped r s) (refusedRun r 3) (takenRun (stoppedAt r s) 0)) (refusedRun r 2)
-
--- an event, with grounds 2 to 6: a whole step, a stop, or "a stop during any of the first five"
 abbrev pub happened : Run → Event → Ran
-happened r (Act s t) = grounded r s t (ranStep (stepOf (siteAt r s) t .outcome) r s t (stepOf (siteAt r s) t))
-happened r (Stop s) = stopped r s
-happened r (Cut s t x) = grounded r s t (ranCut (stepOf (siteAt r s) t .outcome) r s (stepOf (siteAt r s) t) x)
+happened r e = record { run = applied r (actor e) (effectOf r e); outcome = outcomeOf r e; counts = reportOf r e }
 
--- ground 1, then the event
-unfoldable pub eventOf : Run → Event → Ran
-eventOf r e = cond (soundRun r) (happened r e) (refusedRun r 1)
+-- refused with the first ground that holds, if any does
+abbrev pub unless : ℕ → Run → Ran → Ran
+unless zero r x = x
+unless (suc g) r x = refusedRun r (suc g)
 
--- an event of a run whose soundness is not asked for, beyond that it has a record for each site and that of the site that steps is sound
+-- an event of a sound run: grounds 2 to 6
 unfoldable pub goesOf : Run → Event → Ran
-goesOf r e = cond (leb (r .n) 8) (happened r e) (refusedRun r 1)
+goesOf r e = unless (eventGround r e) r (happened r e)
+
+-- an event of any run: ground 1 comes first
+unfoldable pub eventOf : Run → Event → Ran
+eventOf r e = cond (soundRun r) (goesOf r e) (refusedRun r 1)
+
+-- the event as a live call takes it
+abbrev pub nextOf : Run → Event → Ran
+nextOf = eventOf

@@ -9,26 +9,27 @@ use Rattle.sets.specs.Sets.{isSite, has, union, minus, without, withSite}
 use Rattle.site.specs.declared.State.{State}
 use Rattle.site.specs.declared.State.the-variants.{Q}
 use Rattle.site.specs.declared.Site.{Site}
+use Rattle.site.specs.Site.{recordWith}
 use Rattle.run.specs.declared.Run.{Run}
 
 -- ---- what a run holds
 
 -- what stands at a place that there is not
 abbrev pub noSite : Site
-noSite = record { n = 0; number = 0; state = Q; leader = 0; known = 0; yes = 0; no = 0; acked = 0 }
+noSite = recordWith 0 0 Q 0 0 0 0 0
 
 -- the record of site i
 abbrev pub siteAt : Run → ℕ → Site
 siteAt r i = getD (r .sites) (i - 1) noSite
 
--- a kind of message has one of nine rows, of which 01 uses eight: the ninth is kept so that one more kind of message leaves the
+-- a number that has a row of the network: 01 uses eight of the nine, and the ninth is kept so that one more kind of message leaves the
 -- 138 bytes of a run as they are
-unfoldable pub isKind : ℕ → Bool
-isKind k = leb 1 k && leb k 9
+unfoldable pub hasRow : ℕ → Bool
+hasRow k = leb 1 k && leb k 9
 
 -- where the receivers of the messages of kind k from site s stand; past the end for any other kind or sender
 unfoldable pub place : ℕ → ℕ → ℕ
-place k s = cond (isKind k && isSite s) (8 * (k - 1) + (s - 1)) 72
+place k s = cond (hasRow k && isSite s) (8 * (k - 1) + (s - 1)) 72
 
 -- the sites for which a message of kind k from s is outstanding
 abbrev pub receivers : List ℕ → ℕ → ℕ → ℕ
@@ -70,14 +71,18 @@ stoppedIn net s = map (λ (m : ℕ). without m s) net
 
 -- ---- what an event may do to a run
 
+-- a run after an event has the same n; the stopped sites, the records and the network may be others. Only here is a run built anew
+abbrev pub remade : Run → ℕ → List Site → List ℕ → Run
+remade r stopped sites net = record { n = r .n; stopped = stopped; sites = sites; net = net }
+
 -- another record for site s. Only sites of 1 to n act (ground 2), and no other record changes (`frame` in RunLaws): so places above n
 -- are "handed back as given"
 abbrev pub withRecord : Run → ℕ → Site → Run
-withRecord r s x = record { n = r .n; stopped = r .stopped; sites = set (r .sites) (s - 1) x; net = r .net }
+withRecord r s x = remade r (r .stopped) (set (r .sites) (s - 1) x) (r .net)
 
 -- another network
 abbrev pub withNet : Run → List ℕ → Run
-withNet r net = record { n = r .n; stopped = r .stopped; sites = r .sites; net = net }
+withNet r net = remade r (r .stopped) (r .sites) net
 
 -- the message of kind k from a site to s is taken out of the network
 unfoldable pub takenOut : Run → ℕ → ℕ → ℕ → Run
@@ -90,12 +95,12 @@ sentBy r k s to = withNet r (sentIn (r .net) k s (minus to (r .stopped)))
 
 -- site s stops: "a stop removes what is addressed to the site"
 unfoldable pub stoppedAt : Run → ℕ → Run
-stoppedAt r s = record { n = r .n; stopped = withSite (r .stopped) s; sites = r .sites; net = stoppedIn (r .net) s }
+stoppedAt r s = remade r (withSite (r .stopped) s) (r .sites) (stoppedIn (r .net) s)
 
 -- ---- "Fresh: all in q, following 1, all sets empty, no messages"
 
 abbrev pub freshSite : ℕ → ℕ → Site
-freshSite m i = record { n = m; number = i; state = Q; leader = 1; known = 0; yes = 0; no = 0; acked = 0 }
+freshSite m i = recordWith m i Q 1 0 0 0 0
 
 -- places above n are filled like the others
 abbrev pub freshRun : ℕ → Run

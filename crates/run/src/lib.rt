@@ -2,16 +2,17 @@
 // An event takes any run. What it cannot accept it refuses with 01's number, and the run comes back as it was.
 
 ghost use mathlib.Core.Path.{_≡_};
-ghost use mathlib.Core.Bool.{_&&_};
+ghost use mathlib.Core.Bool.{not, _&&_, _||_};
 ghost use Prim.Native.Nat.{ℕ, _+_, _≤_};
 ghost use lib.Dec.{eqb, leb};
 ghost use lib.ListN.{length};
-ghost use Rattle.sets.specs.Sets.{subset};
+ghost use Rattle.sets.specs.Sets.{has, subset, belowOf};
 ghost use Rattle.site.specs.Site.{soundOf};
-ghost use Rattle.run.specs.Run.{sentBy, stoppedAt, freshSite, freshRun};
+ghost use Rattle.run.specs.Run.{freshSite, freshRun};
 ghost use Rattle.run.specs.Sound.{every, soundPlace, soundRun};
-ghost use Rattle.run.specs.Event.{refusedRun, takenRun, freshOf, acted, stopped, happened, goesOf, eventOf};
-ghost use Rattle.run.specs.Reply.{thereIn, groundIn, deliveredIn, settled, replyOf};
+ghost use Rattle.run.specs.Event.{refusedRun, takenRun, freshOf, gotBy, gotFrom, wholeStep, halting, haltedAt, applied, goesOf, eventOf};
+ghost use Rattle.run.specs.Tested.{orderedPlace, goodRun, testedOf, theRun, nextWith, goneOn};
+ghost use Rattle.run.specs.Reply.{thereIn, stepGroundIn, replyFrom, replyOf};
 use site::Answer;
 use site::Counts;
 use site::Outcome;
@@ -42,6 +43,31 @@ pub struct Ran {
     pub run: Run,
     pub outcome: Outcome,
     pub counts: Counts,
+}
+
+// A run with what its test found. Only this crate makes one: `good` stands where the run is sound and its leaders are in order, and so stays
+// sound, event by event.
+pub struct Tested {
+    run: Run,
+    good: bool,
+}
+
+// An event's answer, with the run as it then is.
+pub struct Next {
+    pub tested: Tested,
+    pub outcome: Outcome,
+    pub counts: Counts,
+}
+
+// What an accepted event of a site does to a run: the site's record afterwards, the message that it takes out of the network (kind 0 for
+// none), the messages of one kind that leave, and whether the site stops.
+struct Effect {
+    site: Site,
+    got: u8,
+    from: u8,
+    kind: u8,
+    to: u8,
+    stops: bool,
 }
 
 // A site's answer to a step that it accepts, or the ground on which the step is refused.
@@ -127,6 +153,19 @@ fn sound_place(site: Site, n: u8, stopped: u8, i: u8) -> bool
     sets::subset(site.known, stopped)
 }
 
+// Does site i, if it runs and leads, know all lower sites stopped?
+fn ordered_place(site: Site, stopped: u8, i: u8) -> bool
+    ensures { λ r. ⌜ r ≡ (has stopped i || not (eqb (site .leader) i) || subset (belowOf i) (site .known)) ⌝ }
+{
+    if sets::member(stopped, i) {
+        return true;
+    }
+    if site.leader != i {
+        return true;
+    }
+    sets::subset(sets::below(i), site.known)
+}
+
 // Is there what a step of site s is about? A delivered message is outstanding; a noticed site is among the news,
 // the stopped sites that s does not know of.
 fn is_there(step: Step, s: u8, news: u8, net: &[u8; 72]) -> bool
@@ -146,7 +185,7 @@ fn is_there(step: Step, s: u8, news: u8, net: &[u8; 72]) -> bool
 // The first of the grounds 2 to 4 on which a step of site s, one of the run's, is refused, 0 for none.
 fn ground(site: Site, s: u8, step: Step, stopped: u8, net: &[u8; 72]) -> u8
     requires { ⌜ length (now net) ≡ 72 ⌝ }
-    ensures { λ r. ⌜ r ≡ groundIn site s step stopped (now (net .entry)) ⌝ }
+    ensures { λ r. ⌜ r ≡ stepGroundIn site s step stopped (now (net .entry)) ⌝ }
 {
     if !site.names(step) {
         return 2;
@@ -162,8 +201,8 @@ fn ground(site: Site, s: u8, step: Step, stopped: u8, net: &[u8; 72]) -> u8
 }
 
 // A site's answer, or the ground on which it refuses.
-fn settled(answer: Answer) -> Reply
-    ensures { λ r. ⌜ r ≡ settled (answer .outcome) answer ⌝ }
+fn reply_from(answer: Answer) -> Reply
+    ensures { λ r. ⌜ r ≡ replyFrom (answer .outcome) answer ⌝ }
 {
     let outcome = answer.outcome;
     if let Outcome::Refused(ground) = outcome {
@@ -172,18 +211,61 @@ fn settled(answer: Answer) -> Reply
     Reply::Good(answer)
 }
 
-// A message that a step delivers to site s is taken out of the network, even if it is passed over.
-fn deliver(net: &mut [u8; 72], s: u8, step: Step)
-    requires { ⌜ length (now net) ≡ 72 ⌝ }
-    ensures { λ _. ⌜ now (net .exit) ≡ deliveredIn (now (net .entry)) s step ⌝ }
+// The message that a step delivers: its kind, 0 for none, and its sender.
+fn got_by(step: Step) -> u8
+    ensures { λ r. ⌜ r ≡ gotBy step ⌝ }
 {
     match step {
-        Step::Begin(_) => {}
-        Step::Start(from, _) => net::take_out(net, site::START, from, s),
-        Step::Deliver(kind, from) => net::take_out(net, kind, from, s),
-        Step::Notice(_) => {}
-        Step::TakeOver => {}
-        Step::Conclude => {}
+        Step::Begin(_) => 0,
+        Step::Start(_, _) => site::START,
+        Step::Deliver(kind, _) => kind,
+        Step::Notice(_) => 0,
+        Step::TakeOver => 0,
+        Step::Conclude => 0,
+    }
+}
+
+fn got_from(step: Step) -> u8
+    ensures { λ r. ⌜ r ≡ gotFrom step ⌝ }
+{
+    match step {
+        Step::Begin(_) => 0,
+        Step::Start(from, _) => from,
+        Step::Deliver(_, from) => from,
+        Step::Notice(_) => 0,
+        Step::TakeOver => 0,
+        Step::Conclude => 0,
+    }
+}
+
+// What a whole step does: the delivered message goes, even if it is passed over.
+fn whole(step: Step, answer: Answer) -> Effect
+    ensures { λ r. ⌜ r ≡ wholeStep step answer ⌝ }
+{
+    let site = answer.site;
+    let got = got_by(step);
+    let from = got_from(step);
+    Effect {
+        site,
+        got,
+        from,
+        kind: answer.kind,
+        to: answer.to,
+        stops: false,
+    }
+}
+
+// What a stop does, after messages of a kind to some sites have left: the record stays.
+fn halt(site: Site, kind: u8, to: u8) -> Effect
+    ensures { λ r. ⌜ r ≡ halting site kind to ⌝ }
+{
+    Effect {
+        site,
+        got: 0,
+        from: 0,
+        kind,
+        to,
+        stops: true,
     }
 }
 
@@ -271,52 +353,45 @@ impl Run {
         if ground != 0 {
             return Reply::Bad(ground);
         }
-        settled(site.step(step))
+        reply_from(site.step(step))
     }
 
-    // A step's answer is put into the run: the delivered message out, the new record, the written messages in.
-    // Those to stopped sites do not enter the network.
-    fn acted(self, s: u8, step: Step, answer: Answer) -> Run
-        requires { ⌜ (1 ≤ s) × (s ≤ 8) ⌝ }
-        ensures { λ r. ⌜ r ≡ acted self s step answer ⌝ }
+    // Site s stops, if it does: what is addressed to it leaves the network.
+    fn halted(mut self, s: u8, stops: bool) -> Run
+        ensures { λ r. ⌜ r ≡ haltedAt self s stops ⌝ }
     {
-        let i = (s - 1) as usize;
-        let site = answer.site;
-        let mut next = self;
-        next.sites[i] = site;
-        deliver(&mut next.net, s, step);
-        let entering = sets::minus(answer.to, next.stopped);
-        net::send(&mut next.net, answer.kind, s, entering);
-        next
-    }
-
-    // Site s stops: what is addressed to it leaves the network.
-    fn stopped_at(mut self, s: u8) -> Run
-        ensures { λ r. ⌜ r ≡ stoppedAt self s ⌝ }
-    {
+        if !stops {
+            return self;
+        }
         self.stopped = sets::with(self.stopped, s);
         net::clear(&mut self.net, sets::weight(s));
         self
     }
 
-    // A step is cut short: the site stops with its record as before the step, and of its messages those to some sites leave.
-    fn cut_short(self, s: u8, kind: u8, leaving: u8) -> Run
-        ensures { λ r. ⌜ r ≡ sentBy (stoppedAt self s) kind s leaving ⌝ }
+    // What an event of site s does is put into the run. Messages to stopped sites do not enter the network.
+    fn put(self, s: u8, effect: Effect) -> Run
+        requires { ⌜ (1 ≤ s) × (s ≤ 8) ⌝ }
+        ensures { λ r. ⌜ r ≡ applied self s effect ⌝ }
     {
-        let mut next = self.stopped_at(s);
-        let entering = sets::minus(leaving, next.stopped);
-        net::send(&mut next.net, kind, s, entering);
+        let i = (s - 1) as usize;
+        let site = effect.site;
+        let mut with = self;
+        with.sites[i] = site;
+        net::take_out(&mut with.net, effect.got, effect.from, s);
+        let mut next = with.halted(s, effect.stops);
+        let entering = sets::minus(effect.to, next.stopped);
+        net::send(&mut next.net, effect.kind, s, entering);
         next
     }
 
     // Site s takes a step.
     fn acts(self, s: u8, step: Step) -> Ran
         requires { ⌜ self .n ≤ 8 ⌝ }
-        ensures { λ r. ⌜ r ≡ happened self (Event.Act s step) ⌝ }
+        ensures { λ r. ⌜ r ≡ goesOf self (Event.Act s step) ⌝ }
     {
         match self.reply(s, step) {
             Reply::Good(answer) => {
-                let run = self.acted(s, step, answer);
+                let run = self.put(s, whole(step, answer));
                 let outcome = answer.outcome;
                 let counts = answer.counts;
                 Ran {
@@ -331,7 +406,8 @@ impl Run {
 
     // Site s stops.
     fn stops(self, s: u8) -> Ran
-        ensures { λ r. ⌜ r ≡ stopped self s ⌝ }
+        requires { ⌜ self .n ≤ 8 ⌝ }
+        ensures { λ r. ⌜ r ≡ goesOf self (Event.Stop s) ⌝ }
     {
         let n = self.n;
         if s < 1 {
@@ -343,38 +419,75 @@ impl Run {
         if sets::member(self.stopped, s) {
             return self.refused(3);
         }
-        self.stopped_at(s).taken(0)
+        let i = (s - 1) as usize;
+        let site = self.sites[i];
+        self.put(s, halt(site, 0, 0)).taken(0)
     }
 
     // Site s stops inside a step, after its messages to x have left.
     fn stops_inside(self, s: u8, step: Step, x: u8) -> Ran
         requires { ⌜ self .n ≤ 8 ⌝ }
-        ensures { λ r. ⌜ r ≡ happened self (Event.Cut s step x) ⌝ }
+        ensures { λ r. ⌜ r ≡ goesOf self (Event.Cut s step x) ⌝ }
     {
         match self.reply(s, step) {
             Reply::Good(answer) => {
+                let i = (s - 1) as usize;
+                let site = self.sites[i];
                 let leaving = sets::both(answer.to, x);
-                self.cut_short(s, answer.kind, leaving)
+                self.put(s, halt(site, answer.kind, leaving))
                     .taken(sets::count(leaving))
             }
             Reply::Bad(ground) => self.refused(ground),
         }
     }
 
-    // The next event of a run that is known to be sound, as every run from fresh is: that is not tested again.
-    // A run of more than eight sites is refused with 1, and so, after 2 to 4, is a step of a site whose own record is not sound.
-    pub fn goes(self, event: Event) -> Ran
+    // An event of a run that is known to be sound.
+    fn goes(self, event: Event) -> Ran
+        requires { ⌜ self .n ≤ 8 ⌝ }
         ensures { λ r. ⌜ r ≡ goesOf self event ⌝ }
     {
-        let n = self.n;
-        if 8 < n {
-            return self.refused(1);
-        }
         match event {
             Event::Act(s, step) => self.acts(s, step),
             Event::Stop(s) => self.stops(s),
             Event::Cut(s, step, x) => self.stops_inside(s, step, x),
         }
+    }
+
+    // Does every running leader know all lower sites stopped?
+    fn ordered_places(self) -> bool
+        requires { ⌜ self .n ≤ 8 ⌝ }
+        ensures { λ r. ⌜ r ≡ every (self .n) (λ (i : ℕ). orderedPlace self (i + 1)) ⌝ }
+    {
+        let n = self.n;
+        let stopped = self.stopped;
+        let sites = self.sites;
+        let mut i: u8 = 0;
+        while i < n {
+            let site = sites[i as usize];
+            if !ordered_place(site, stopped, i + 1) {
+                return false;
+            }
+            i += 1;
+        }
+        true
+    }
+
+    // Is the run sound, with its leaders in order?
+    fn good(self) -> bool
+        ensures { λ r. ⌜ r ≡ goodRun self ⌝ }
+    {
+        if !self.sound() {
+            return false;
+        }
+        self.ordered_places()
+    }
+
+    // The run is tested once, for all events to come.
+    pub fn tested(self) -> Tested
+        ensures { λ r. ⌜ r ≡ testedOf self ⌝ }
+    {
+        let good = self.good();
+        Tested { run: self, good }
     }
 
     // An event happens in any run.
@@ -385,5 +498,45 @@ impl Run {
             return self.refused(1);
         }
         self.goes(event)
+    }
+}
+
+// An event's answer with what is known of the run.
+fn next_with(ran: Ran, good: bool) -> Next
+    ensures { λ r. ⌜ r ≡ nextWith ran good ⌝ }
+{
+    let run = ran.run;
+    let outcome = ran.outcome;
+    let counts = ran.counts;
+    let tested = Tested { run, good };
+    Next {
+        tested,
+        outcome,
+        counts,
+    }
+}
+
+impl Tested {
+    // The run as it stands.
+    pub fn run(self) -> Run
+        ensures { λ r. ⌜ r ≡ theRun self ⌝ }
+    {
+        self.run
+    }
+
+    // An event happens; a run that was not found good is tested for soundness first.
+    pub fn next(self, event: Event) -> Next
+        ensures { λ r. ⌜ r ≡ goneOn self event ⌝ }
+    {
+        let run = self.run;
+        let n = run.n;
+        let good = self.good;
+        if !good {
+            return next_with(run.happens(event), false);
+        }
+        if 8 < n {
+            return next_with(run.happens(event), false);
+        }
+        next_with(run.goes(event), true)
     }
 }

@@ -1,3 +1,10 @@
+-- Tables and places; that a cycle is found; what each ground says, and what a sheet without one is.
+pub mod IndexLaws
+pub mod Pigeon
+pub mod PathLaws
+pub mod GroundLaws
+pub mod FineLaws
+pub mod CycleLaws
 -- What the proofs of the functions share, from the table of arrows to what the others of a site read.
 pub mod Arrows
 pub mod Faults

@@ -9,7 +9,7 @@ use native.Mathlib.Omega.{arith}
 use borrow.Author.Tests.{lt-ltb, le-ltb}
 use lib.Dec.{ltb}
 use lib.ListN.{getD}
-use Rattle.sheet.specs.IndexLaws.{sum-none, sum-more}
+use Rattle.sheet.proofs.IndexLaws.{sum-none, sum-more}
 use Rattle.sheet.specs.Record.{byte, statesBefore, markRead}
 
 -- the states that stand at the places before k

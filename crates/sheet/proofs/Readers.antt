@@ -13,7 +13,7 @@ use lib.Bits.{bitAnd, bitOr, and-step, or-step, and-comm, and-le-r, or-add-and}
 use lib.Dec.{eqb}
 use lib.ListN.{getD}
 use Rattle.sheet.specs.Index.{someBelow, table}
-use Rattle.sheet.specs.IndexLaws.{table-at}
+use Rattle.sheet.proofs.IndexLaws.{table-at}
 use Rattle.sheet.specs.Record.{moveOf}
 use Rattle.sheet.specs.Grounds.{shares, readElsewhere}
 use Rattle.sheet.specs.Faults.{withReads, readWithout, readBeside}

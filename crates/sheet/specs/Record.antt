@@ -19,8 +19,8 @@ abbrev pub lengthOf : List ℕ → ℕ
 lengthOf l = byte l 0 * 256 + byte l 1
 
 -- four bytes, big-endian: a set of messages
-unfoldable pub wordAt : List ℕ → ℕ → ℕ
-wordAt l at = ((byte l at * 256 + byte l (at + 1)) * 256 + byte l (at + 2)) * 256 + byte l (at + 3)
+unfoldable pub fourAt : List ℕ → ℕ → ℕ
+fourAt l at = ((byte l at * 256 + byte l (at + 1)) * 256 + byte l (at + 2)) * 256 + byte l (at + 3)
 
 -- the number of sites, after length and version
 abbrev pub sitesOf : List ℕ → ℕ
@@ -82,8 +82,8 @@ transitionFrom l at =
       from = byte l (at + 1);
       to = byte l (at + 2);
       vote = byte l (at + 3);
-      reads = wordAt l (at + 4);
-      writes = wordAt l (at + 8);
+      reads = fourAt l (at + 4);
+      writes = fourAt l (at + 8);
     }
 
 -- transition k of as many as `moves`, the first of which stands at `start`; none from there on
@@ -101,7 +101,7 @@ partsBy l n cs =
       sites = n;
       counts = cs;
       marks = table (markRead l n cs) 32;
-      first = wordAt l (firstAt n cs);
+      first = fourAt l (firstAt n cs);
       moves = movesOf l n cs;
       transitions = table (transitionOf l n cs) 64;
     }

@@ -4,7 +4,7 @@ ghost use mathlib.Core.Bool.{cond};
 ghost use Prim.Native.Nat.{ℕ, _+_, _*_, _^_, _≤_, _<_};
 ghost use lib.ListN.{length, getD};
 ghost use Rattle.sheet.specs.Index.{table};
-ghost use Rattle.sheet.specs.Record.{byte, wordAt, sitesOf, countOf, countsOf, statesBefore, movesAt, markRead, transitionFrom, transitionIn, partsOf};
+ghost use Rattle.sheet.specs.Record.{byte, fourAt, sitesOf, countOf, countsOf, statesBefore, movesAt, markRead, transitionFrom, transitionIn, partsOf};
 ghost use Rattle.sheet.specs.Grounds.{frameGround};
 use super::Sheet;
 use super::Transition;
@@ -32,7 +32,7 @@ pub(crate) fn pair_at(bytes: &[u8], at: usize) -> u32
 // Four bytes that are there, big-endian.
 fn word_at(bytes: &[u8], at: usize) -> u32
     requires { ⌜ (at < 2 ^ 20) × (at + 4 ≤ length (now bytes)) ⌝ }
-    ensures { λ r. ⌜ r ≡ wordAt (now (bytes .entry)) at ⌝ }
+    ensures { λ r. ⌜ r ≡ fourAt (now (bytes .entry)) at ⌝ }
 {
     let high = pair_at(bytes, at);
     let low = pair_at(bytes, at + 2);

@@ -37,12 +37,12 @@ isP C = false
 
 -- ---- "A site record has"
 
--- the record with these in place of its state, its leader and its four sets
-abbrev changed : Site → State → ℕ → ℕ → ℕ → ℕ → ℕ → Site
-changed s q leader known yeses noes acked =
+-- n, its own number, state, the leader it follows, and four sets: known stopped, yes heard, no heard, acknowledged. Only here is a record made
+abbrev pub recordWith : ℕ → ℕ → State → ℕ → ℕ → ℕ → ℕ → ℕ → Site
+recordWith m number q leader known yeses noes acked =
     record {
-      n = s .n;
-      number = s .number;
+      n = m;
+      number = number;
       state = q;
       leader = leader;
       known = known;
@@ -50,6 +50,10 @@ changed s q leader known yeses noes acked =
       no = noes;
       acked = acked;
     }
+
+-- the record with these in place of its state, its leader and its four sets
+abbrev changed : Site → State → ℕ → ℕ → ℕ → ℕ → ℕ → Site
+changed s = recordWith (s .n) (s .number)
 
 -- the record with another state, another leader, another one of its four sets
 abbrev pub inState : Site → State → Site

@@ -55,6 +55,13 @@ none = record { written = 0; awaited = 0 }
 abbrev pub counted : Site → ℕ → Counts
 counted s to = record { written = countOf to; awaited = countOf (awaitedOf s) }
 
+-- "When an answer is an enum, a definition gives this paper's number and values for each of its cases": an outcome's number is its ground,
+-- 0 where there is none, and its values are what is reported
+abbrev pub numberOf : Outcome → ℕ
+numberOf Taken = 0
+numberOf Passed = 0
+numberOf (Refused g) = g
+
 abbrev pub countsOf : Outcome → Site → ℕ → Counts
 countsOf Taken s to = counted s to
 countsOf Passed s to = counted s to
@@ -82,12 +89,6 @@ stepOf s t = answered (doneOf s t)
 -- "Refused: run and site come back unchanged, no message, zero counts"
 abbrev pub refusal : Site → ℕ → Answer
 refusal s g = record { site = s; outcome = Refused g; kind = 0; to = 0; counts = none }
-
--- "When an answer is an enum, a definition gives this paper's number and values for each of its cases": an outcome's ground, 0 where there is none
-abbrev pub groundOf : Outcome → ℕ
-groundOf Taken = 0
-groundOf Passed = 0
-groundOf (Refused g) = g
 
 -- the lowest site awaited, 0 for none
 unfoldable pub awaitedFirst : Site → ℕ

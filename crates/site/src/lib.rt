@@ -53,7 +53,7 @@ pub enum Outcome {
     Refused(u8),
 }
 
-// What a step did: the site afterwards, and one kind of message written to a set of receivers.
+// What a step did: the site afterwards, and one kind of message written to a set of receivers. The laws of the promise speak of it.
 pub struct Done {
     pub site: Site,
     pub outcome: Outcome,
@@ -76,7 +76,7 @@ pub struct Answer {
     pub counts: Counts,
 }
 
-// What an order of a leader does to a state: it leads to a state, is passed over, or conflicts.
+// What an order of a leader does to a state: it leads to a state, is passed over, or conflicts. The laws of the promise speak of it.
 pub enum Order {
     To(State),
     Over,
@@ -213,7 +213,7 @@ fn order_at(kind: u8, state: State) -> Order
 }
 
 impl Site {
-    // The one place where a record is written anew.
+    // The record in another state. A field that is an enum is not stored to, so the record is written anew.
     fn in_state(self, state: State) -> Site
         ensures { λ r. ⌜ r ≡ inState self state ⌝ }
     {
@@ -496,7 +496,7 @@ impl Site {
     }
 
     // It leads, acknowledgements cleared, and tells all where it stands; from q it goes to a.
-    fn leads(self) -> Done
+    fn takes_lead(self) -> Done
         ensures { λ r. ⌜ r ≡ overIn (self .state) self ⌝ }
     {
         let to = self.to_all();
@@ -527,7 +527,7 @@ impl Site {
         if !self.may_lead() {
             return self.refused(5);
         }
-        self.leads()
+        self.takes_lead()
     }
 
     // Has every other site acknowledged, or is it known stopped?

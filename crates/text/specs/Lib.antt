@@ -1,6 +1,4 @@
--- Parts put into lent bytes, decimal numbers and words as bytes; each Laws has what follows from the file before it.
+-- Parts put into lent bytes, decimal numbers and words as bytes.
 pub mod Text
-pub mod TextLaws
 pub mod Decimal
-pub mod DecimalLaws
 pub mod Said

@@ -1,2 +1,3 @@
--- What the proofs of the functions share.
+-- What follows from the text's definition, and a rehearsal under way.
+pub mod TranscriptLaws
 pub mod Going

@@ -1,4 +1,3 @@
--- The rehearsal's text, byte by byte; then what follows from it, and a rehearsal under way.
+-- The rehearsal's text, byte by byte, and a rehearsal under way.
 pub mod Transcript
-pub mod TranscriptLaws
 pub mod Played

@@ -1,6 +1,6 @@
 -- `run::fresh` meets its contract.
 -- Assumes nothing.
-use Rattle.run.specs.RunLists.{fails, holds}
+use Rattle.run.proofs.RunLists.{test-fails, test-holds}
 use Rattle.run.specs.Event.{freshOf}
 use borrow.Author.Needs.{needs}
 use Rattle.run.proofs.fresh.Statement.{statement}
@@ -17,7 +17,7 @@ refused-requires c κs = search needs
 
 returns : tie.Need-returns
 unfolding freshOf
-returns c = simp (fails (c .before .before .before .is-count .ensures) (c .before .before .if1 .taken), c .refused .ensures, c .before .fresh-run .ensures)
+returns c = simp (test-fails (c .before .before .before .is-count .ensures) (c .before .before .if1 .taken), c .refused .ensures, c .before .fresh-run .ensures)
 
 fresh-run-requires-2 : tie.Need-fresh-run-requires-2
 fresh-run-requires-2 c κs = search needs
@@ -27,7 +27,7 @@ taken-requires c κs = search needs
 
 returns-2 : tie.Need-returns-2
 unfolding freshOf
-returns-2 c = simp (holds (c .before .before .before .is-count .ensures) (c .before .before .if1 .left), c .taken .ensures, c .before .fresh-run2 .ensures)
+returns-2 c = simp (test-holds (c .before .before .before .is-count .ensures) (c .before .before .if1 .left), c .taken .ensures, c .before .fresh-run2 .ensures)
 
 pub fresh-spec : {M : Type 1} → statement M
 fresh-spec =

@@ -4,7 +4,7 @@ use native.Mathlib.Omega.{arith}
 use lib.Pow.{pow-pos}
 use borrow.Author.Tests.{lt-ltb, le-ltb}
 use Rattle.sets.specs.Sets.{allOf}
-use Rattle.sets.specs.SetLaws.{shifted}
+use Rattle.sets.proofs.SetLaws.{shifted}
 use borrow.Author.Needs.{needs}
 use Rattle.sets.proofs.all_of.Statement.{statement}
 use Rattle.sets.proofs.all_of.Tie as tie

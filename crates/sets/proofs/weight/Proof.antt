@@ -4,7 +4,7 @@ use Prim.Native.Nat.{_-_}
 use native.Mathlib.Omega.{arith}
 use borrow.Author.Tests.{le-leb, lt-leb}
 use Rattle.sets.specs.Sets.{weightOf, isSite}
-use Rattle.sets.specs.SetLaws.{shifted}
+use Rattle.sets.proofs.SetLaws.{shifted}
 use borrow.Author.Needs.{needs}
 use Rattle.sets.proofs.weight.Statement.{statement}
 use Rattle.sets.proofs.weight.Tie as tie

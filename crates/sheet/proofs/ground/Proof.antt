@@ -3,8 +3,8 @@
 use mathlib.Core.Path.{_≡_, sym, ap, _∙_}
 use Rattle.sheet.specs.Record.{partsBy}
 use Rattle.sheet.specs.Grounds.{frameGround, partsGround}
-use Rattle.sheet.specs.GroundLaws.{framed, frame-first, parts-next}
-use Rattle.sheet.specs.FineLaws.{moves-few, sites-few}
+use Rattle.sheet.proofs.GroundLaws.{framed, frame-first, parts-next}
+use Rattle.sheet.proofs.FineLaws.{moves-few, sites-few}
 use borrow.Author.Needs.{needs}
 use Rattle.sheet.proofs.ground.Statement.{statement}
 use Rattle.sheet.proofs.ground.Tie as tie

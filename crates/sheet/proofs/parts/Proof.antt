@@ -2,9 +2,9 @@
 -- Assumes nothing.
 use mathlib.Core.Path.{_≡_, sym, subst, _∙_}
 use Rattle.sheet.specs.Grounds.{frameGround}
-use Rattle.sheet.specs.GroundLaws.{frame-first, sheet-is, sheet-none}
+use Rattle.sheet.proofs.GroundLaws.{frame-first, sheet-is, sheet-none}
 use Rattle.sheet.specs.Fine.{Fine}
-use Rattle.sheet.specs.CycleLaws.{accepted-fine}
+use Rattle.sheet.proofs.CycleLaws.{accepted-fine}
 use borrow.Author.Needs.{needs}
 use Rattle.sheet.proofs.parts.Statement.{statement}
 use Rattle.sheet.proofs.parts.Tie as tie

@@ -9,8 +9,8 @@ use borrow.Author.Needs.{needs}
 use borrow.Fn.Kinds.{In}
 use borrow.Fn.PlainCycle.{Measures, is, falls, and}
 use Rattle.text.specs.Decimal.{decimal}
-use Rattle.text.specs.DecimalLaws.{decimal-one, decimal-more, width-more}
-use Rattle.text.specs.TextLaws.{put-length, put-then, put-byte, put-as}
+use Rattle.text.proofs.DecimalLaws.{decimal-one, decimal-more, width-more}
+use Rattle.text.proofs.TextLaws.{put-length, put-then, put-byte, put-as}
 use Rattle.text.proofs.digits.Reads as digits
 use Rattle.text.proofs.digits.Kinds as digits-kinds
 use Rattle.text.proofs.+digits.Lts-digits as digits-lts

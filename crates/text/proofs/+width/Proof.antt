@@ -6,7 +6,7 @@ use lib.ListN.{length}
 use Prim.Native.Nat.{ℕ, _<_, _/_}
 use borrow.Fn.Kinds.{In}
 use borrow.Fn.PlainCycle.{Measures, is, falls, and}
-use Rattle.text.specs.DecimalLaws.{decimal-one, width-more, width-decimal}
+use Rattle.text.proofs.DecimalLaws.{decimal-one, width-more, width-decimal}
 use Rattle.text.proofs.width.Reads as width
 use Rattle.text.proofs.width.Kinds as width-kinds
 use Rattle.text.proofs.+width.Lts-width as width-lts

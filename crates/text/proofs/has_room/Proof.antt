@@ -4,7 +4,7 @@ use borrow.Author.Tests.{lt-leb}
 use native.Mathlib.Omega.{arith}
 use Prim.Native.Nat.{_+_}
 use Rattle.text.specs.Text.{fits}
-use Rattle.text.specs.TextLaws.{room-left}
+use Rattle.text.proofs.TextLaws.{room-left}
 use Rattle.text.proofs.has_room.Statement.{statement}
 use Rattle.text.proofs.has_room.Tie as tie
 

@@ -44,7 +44,8 @@ pub fn judge(bytes: &[u8]) -> Result<Judgement, u8> {
     }
 }
 
-/// The sheet program's text, of all these bytes: the program itself takes the first 65,536.
+/// The sheet program's text, of all these bytes; the program, and whoever reads a file here, takes
+/// the first 65,536.
 pub fn report(bytes: &[u8]) -> Vec<u8> {
     let (mut words, mut text) = (vec![0; WORDS], vec![0; AMPLE]);
     let length = fjadrimor::calls::sheet_report(bytes, &mut words, &mut text);

@@ -34,8 +34,9 @@ pub const USAGE: &str = "usage: fj judge FILE                     the report, wi
        fj sheet show FILE                the notation of a sheet
        fj sheet draw FILE > SHEET.svg    each site's state diagram
   FILE holds a sheet in the notation or in bytes; - is standard input, and -- ends the options.
-  All its bytes count, where the sheet program takes the first 65,536.
-  Exit status: 0 done; 1 where the sheet is refused or cannot be read; 2 bad usage.
+  Of bytes the first 65,536 count, as for the sheet program; a text may have 1,048,576.
+  Exit status: 0 done; 1 where the sheet is refused or cannot be read, and with --strict where
+  it is blocking; 2 bad usage.
 ";
 
 /// A sheet as it was given: its file's name, its bytes, and the sheet with names where the bytes

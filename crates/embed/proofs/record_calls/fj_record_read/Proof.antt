@@ -10,7 +10,7 @@ use lib.Seq.{drop-drop}
 use Rattle.fields.specs.declared.Fields.{Fields}
 use Rattle.journal.specs.declared.Found.{Found}
 use Rattle.journal.specs.Record.{bodyOf, fieldsIn, readOf}
-use Rattle.journal.specs.RecordLaws.{bad-is, ground-read, body-bytes}
+use Rattle.journal.proofs.RecordLaws.{bad-is, ground-read, body-bytes}
 use Rattle.text.specs.Text.{fits, spliced}
 use Rattle.embed.specs.Bytes.{leaves}
 use Rattle.embed.specs.RecordCalls.{readLeaves, readCall}

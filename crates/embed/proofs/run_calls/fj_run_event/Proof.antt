@@ -3,7 +3,7 @@
 use mathlib.Core.Path.{sym, _∙_}
 use borrow.Author.Tests.{lt-ltb, le-ltb, not-true, not-false}
 use Rattle.embed.specs.RunCalls.{runCall}
-use Rattle.embed.specs.BytesLaws.{run-length}
+use Rattle.packed.proofs.BytesLaws.{run-sized}
 use borrow.Author.Needs.{needs}
 use Rattle.embed.proofs.run_calls.fj_run_event.Statement.{statement}
 use Rattle.embed.proofs.run_calls.fj_run_event.Tie as tie
@@ -29,7 +29,7 @@ unfolding runCall
 returns-2 c = simp (le-ltb _ _ (c .before .before .before .before .before .before .before .if1 .left), sym (c .before .before .before .before .before .is-run .ensures) ∙ not-true _ (c .before .before .before .before .if2 .taken), c .before .before .refuse .ensures .0, c .before .before .refuse .ensures .1)
 
 take-fields-requires : tie.Need-take-fields-requires
-take-fields-requires c κs = (run-length _ (sym (c .before .before .before .is-run .ensures) ∙ not-false _ (c .before .before .if2 .left)), search needs)
+take-fields-requires c κs = (run-sized _ (sym (c .before .before .before .is-run .ensures) ∙ not-false _ (c .before .before .if2 .left)), search needs)
 
 same-length-3 : tie.Need-same-length-3
 same-length-3 c = search needs

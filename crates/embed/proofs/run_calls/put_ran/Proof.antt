@@ -3,7 +3,7 @@
 use mathlib.Core.List.{[], _∷_}
 use mathlib.Core.Path.{_∙_}
 use Rattle.embed.specs.Bytes.{outcomeByte}
-use Rattle.embed.proofs.Parts.{put-front}
+use Rattle.embed.proofs.Calls.{put-front}
 use borrow.Author.Needs.{needs}
 use Rattle.embed.proofs.run_calls.put_ran.Statement.{statement}
 use Rattle.embed.proofs.run_calls.put_ran.Tie as tie

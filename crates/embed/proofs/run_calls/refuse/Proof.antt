@@ -2,7 +2,7 @@
 -- Assumes nothing.
 use mathlib.Core.List.{[], _∷_}
 use mathlib.Core.Path.{refl, _∙_}
-use Rattle.embed.proofs.Parts.{put-front}
+use Rattle.embed.proofs.Calls.{put-front}
 use borrow.Author.Needs.{needs}
 use Rattle.embed.proofs.run_calls.refuse.Statement.{statement}
 use Rattle.embed.proofs.run_calls.refuse.Tie as tie

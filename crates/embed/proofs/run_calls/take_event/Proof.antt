@@ -1,13 +1,16 @@
 -- `embed::run_calls::take_event` meets its contract.
 -- Assumes nothing.
-use Rattle.embed.specs.RunCalls.{runBytes, ranBytes}
+use mathlib.Core.Path.{_∙_}
+use Rattle.packed.specs.Bytes.{runSize, runBytes}
+use Rattle.packed.proofs.BytesLaws.{fitting, fitted}
+use Rattle.embed.specs.RunCalls.{ranBytes}
 use Rattle.embed.proofs.Calls.{called-refused, called-accepted}
 use borrow.Author.Needs.{needs}
 use Rattle.embed.proofs.run_calls.take_event.Statement.{statement}
 use Rattle.embed.proofs.run_calls.take_event.Tie as tie
 
-run-from-requires : tie.Need-run-from-requires
-run-from-requires c κs = search needs
+read-run-requires : tie.Need-read-run-requires
+read-run-requires c κs = search needs
 
 happens-requires : tie.Need-happens-requires
 happens-requires c κs = search needs
@@ -26,10 +29,10 @@ same-length-2 c = search needs
 
 returns : tie.Need-returns
 unfolding ranBytes
-returns c = simp (← c .before .before .before .before .before .before .before .before .run-from .ensures, ← c .before .before .before .before .before .before .before .happens .ensures) (called-refused (c .before .before .before .before .before .before .before .happens .result .outcome) (c .before .before .before .before .before .before .before .before .before .before .before .before .args .run .now) (runBytes (c .before .before .before .before .before .before .before .happens .result .run)) _ _ (c .before .before .before .before .before .put-ran .ensures) _ (c .before .outcome .given .1))
+returns c = simp (← c .before .before .before .before .before .before .before .before .read-run .ensures, ← c .before .before .before .before .before .before .before .happens .ensures) (called-refused (c .before .before .before .before .before .before .before .happens .result .outcome) (c .before .before .before .before .before .before .before .before .before .before .before .before .args .run .now) (runBytes (c .before .before .before .before .before .before .before .happens .result .run)) _ _ (c .before .before .before .before .before .put-ran .ensures) _ (c .before .outcome .given .1))
 
-put-run-requires : tie.Need-put-run-requires
-put-run-requires c κs = search needs
+write-run-requires : tie.Need-write-run-requires
+write-run-requires c κs = search needs
 
 same-length-3 : tie.Need-same-length-3
 same-length-3 c = search needs
@@ -39,20 +42,20 @@ same-length-4 c = search needs
 
 returns-2 : tie.Need-returns-2
 unfolding ranBytes
-returns-2 c = simp (← c .before .before .before .before .before .before .before .before .before .before .run-from .ensures, ← c .before .before .before .before .before .before .before .before .before .happens .ensures) (called-accepted (c .before .before .before .before .before .before .before .before .before .happens .result .outcome) (c .before .before .before .before .before .before .before .before .before .before .before .before .before .before .args .run .now) (runBytes (c .before .before .before .before .before .before .before .before .before .happens .result .run)) _ _ (c .before .before .before .before .before .before .before .put-ran .ensures) _ (c .before .before .put-run .ensures) (c .before .before .before .before .match .keys2))
+returns-2 c = simp (← c .before .before .before .before .before .before .before .before .before .before .read-run .ensures, ← c .before .before .before .before .before .before .before .before .before .happens .ensures) (called-accepted (c .before .before .before .before .before .before .before .before .before .happens .result .outcome) (c .before .before .before .before .before .before .before .before .before .before .before .before .before .before .args .run .now) (runBytes (c .before .before .before .before .before .before .before .before .before .happens .result .run)) _ _ (c .before .before .before .before .before .before .before .put-ran .ensures) _ _ (c .before .before .write-run .ensures .0 ∙ fitting runSize (c .before .before .before .before .before .before .before .before .before .before .before .before .before .before .args .run .now) (c .before .before .before .before .before .before .before .before .before .before .before .before .before .before .pre .0)) (c .before .before .write-run .ensures .1 ∙ fitted runSize (c .before .before .before .before .before .before .before .before .before .before .before .before .before .before .args .run .now) (c .before .before .before .before .before .before .before .before .before .before .before .before .before .before .pre .0) (runBytes (c .before .before .before .before .before .before .before .before .before .happens .result .run))) (c .before .before .before .before .match .keys2))
 
 pub take-event-spec : {M : Type 1} → statement M
 take-event-spec =
     tie.close
     (tie.spec
-    run-from-requires
+    read-run-requires
     happens-requires
     put-ran-requires
     enum-known-outcome
     same-length
     same-length-2
     returns
-    put-run-requires
+    write-run-requires
     same-length-3
     same-length-4
     returns-2)

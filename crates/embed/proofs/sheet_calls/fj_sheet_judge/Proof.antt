@@ -4,7 +4,7 @@ use Prim.Native.Nat.{ℕ}
 use mathlib.Core.List.{List, _++_}
 use mathlib.Core.Path.{refl, sym, ap, _∙_}
 use lib.ListN.{drop}
-use Rattle.judge.specs.OutcomeLaws.{refused-zeros}
+use Rattle.judge.proofs.OutcomeLaws.{refused-zeros}
 use Rattle.embed.specs.SheetCalls.{verdictBytes, refused-bytes}
 use Rattle.embed.specs.SheetCalls.JudgeCall.{cramped, judged}
 use borrow.Author.Needs.{needs}

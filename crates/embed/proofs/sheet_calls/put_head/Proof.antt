@@ -1,8 +1,7 @@
 -- `embed::sheet_calls::put_head` meets its contract.
 -- Assumes nothing.
-use mathlib.Core.Path.{_∙_}
+use Rattle.text.proofs.TextLaws.{put-fits}
 use Rattle.embed.specs.SheetCalls.{headBytes}
-use Rattle.embed.proofs.Parts.{put-front}
 use borrow.Author.Needs.{needs}
 use Rattle.embed.proofs.sheet_calls.put_head.Statement.{statement}
 use Rattle.embed.proofs.sheet_calls.put_head.Tie as tie
@@ -27,7 +26,7 @@ same-length c = search needs
 
 returns : tie.Need-returns
 unfolding headBytes
-returns c = c .before .before .put .ensures .1 ∙ simp (c .before .before .before .before .before .before .before .low-byte .ensures, c .before .before .before .before .before .before .low-byte2 .ensures, c .before .before .before .before .before .flag .ensures) (put-front (headBytes (c .before .before .before .before .before .before .before .before .before .args .verdict)) (c .before .before .before .before .before .before .before .before .before .args .out .now) (c .before .before .before .before .before .before .before .before .before .pre))
+returns c = put-fits (c .before .before .before .before .before .before .before .before .before .args .out .now) 0 (headBytes (c .before .before .before .before .before .before .before .before .before .args .verdict)) (c .before .before .before .before .before .before .before .before .before .pre) (simp (c .before .before .before .before .before .before .before .low-byte .ensures, c .before .before .before .before .before .before .low-byte2 .ensures, c .before .before .before .before .before .flag .ensures) at (c .before .before .put .ensures))
 
 pub put-head-spec : {M : Type 1} → statement M
 put-head-spec =

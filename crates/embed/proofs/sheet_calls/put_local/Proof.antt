@@ -1,8 +1,7 @@
 -- `embed::sheet_calls::put_local` meets its contract.
 -- Assumes nothing.
-use mathlib.Core.Path.{_∙_}
+use Rattle.text.proofs.TextLaws.{put-fits}
 use Rattle.embed.specs.SheetCalls.{localBytes}
-use Rattle.embed.proofs.Parts.{put-front}
 use borrow.Author.Needs.{needs}
 use Rattle.embed.proofs.sheet_calls.put_local.Statement.{statement}
 use Rattle.embed.proofs.sheet_calls.put_local.Tie as tie
@@ -36,7 +35,7 @@ same-length c = search needs
 
 returns : tie.Need-returns
 unfolding localBytes
-returns c = c .before .before .put .ensures .1 ∙ simp (c .before .before .before .before .before .before .before .before .before .flags .ensures, c .before .before .before .before .before .before .before .before .low-byte .ensures, c .before .before .before .before .before .before .before .low-byte2 .ensures, c .before .before .before .before .before .before .low-byte3 .ensures, c .before .before .before .before .before .low-byte4 .ensures) (put-front (localBytes (c .before .before .before .before .before .before .before .before .before .before .before .before .args .local)) (c .before .before .before .before .before .before .before .before .before .before .before .before .args .part .now) (c .before .before .before .before .before .before .before .before .before .before .before .before .pre))
+returns c = put-fits (c .before .before .before .before .before .before .before .before .before .before .before .before .args .out .now) (c .before .before .before .before .before .before .before .before .before .before .before .before .args .at) (localBytes (c .before .before .before .before .before .before .before .before .before .before .before .before .args .local)) (c .before .before .before .before .before .before .before .before .before .before .before .before .pre) (simp (c .before .before .before .before .before .before .before .before .before .flags .ensures, c .before .before .before .before .before .before .before .before .low-byte .ensures, c .before .before .before .before .before .before .before .low-byte2 .ensures, c .before .before .before .before .before .before .low-byte3 .ensures, c .before .before .before .before .before .low-byte4 .ensures) at (c .before .before .put .ensures))
 
 pub put-local-spec : {M : Type 1} → statement M
 put-local-spec =

@@ -2,7 +2,7 @@
 -- Assumes nothing.
 use mathlib.Core.Path.{_∙_}
 use lib.ListN.{replicate}
-use Rattle.embed.proofs.Parts.{put-front}
+use Rattle.embed.proofs.Calls.{put-front}
 use borrow.Author.Needs.{needs}
 use Rattle.embed.proofs.sheet_calls.put_zeros.Statement.{statement}
 use Rattle.embed.proofs.sheet_calls.put_zeros.Tie as tie

@@ -3,7 +3,7 @@
 use mathlib.Core.Path.{sym, _∙_}
 use borrow.Author.Tests.{lt-ltb, le-ltb, not-true, not-false}
 use Rattle.embed.specs.SiteCall.{siteCall}
-use Rattle.embed.specs.BytesLaws.{record-length}
+use Rattle.packed.proofs.BytesLaws.{site-sized}
 use borrow.Author.Needs.{needs}
 use Rattle.embed.proofs.site_calls.fj_site_step.Statement.{statement}
 use Rattle.embed.proofs.site_calls.fj_site_step.Tie as tie
@@ -12,8 +12,8 @@ returns : tie.Need-returns
 unfolding siteCall
 returns c = simp (lt-ltb _ _ (c .if1 .taken))
 
-is-record-requires : tie.Need-is-record-requires
-is-record-requires c κs = search needs
+is-site-requires : tie.Need-is-site-requires
+is-site-requires c κs = search needs
 
 refuse-requires : tie.Need-refuse-requires
 refuse-requires c κs = search needs
@@ -26,7 +26,7 @@ same-length-2 c = search needs
 
 returns-2 : tie.Need-returns-2
 unfolding siteCall
-returns-2 c = simp (le-ltb _ _ (c .before .before .before .before .before .before .before .if1 .left), sym (c .before .before .before .before .before .is-record .ensures) ∙ not-true _ (c .before .before .before .before .if2 .taken), c .before .before .refuse .ensures .0, c .before .before .refuse .ensures .1)
+returns-2 c = simp (le-ltb _ _ (c .before .before .before .before .before .before .before .if1 .left), sym (c .before .before .before .before .before .is-site .ensures) ∙ not-true _ (c .before .before .before .before .if2 .taken), c .before .before .refuse .ensures .0, c .before .before .refuse .ensures .1)
 
 is-step-requires : tie.Need-is-step-requires
 is-step-requires c κs = search needs
@@ -42,10 +42,10 @@ same-length-4 c = search needs
 
 returns-3 : tie.Need-returns-3
 unfolding siteCall
-returns-3 c = simp (le-ltb _ _ (c .before .before .before .before .before .before .before .before .before .if1 .left), sym (c .before .before .before .before .before .before .before .is-record .ensures) ∙ not-false _ (c .before .before .before .before .before .before .if2 .left), sym (c .before .before .before .before .before .is-step .ensures) ∙ not-true _ (c .before .before .before .before .if3 .taken), c .before .before .refuse2 .ensures .0, c .before .before .refuse2 .ensures .1)
+returns-3 c = simp (le-ltb _ _ (c .before .before .before .before .before .before .before .before .before .if1 .left), sym (c .before .before .before .before .before .before .before .is-site .ensures) ∙ not-false _ (c .before .before .before .before .before .before .if2 .left), sym (c .before .before .before .before .before .is-step .ensures) ∙ not-true _ (c .before .before .before .before .if3 .taken), c .before .before .refuse2 .ensures .0, c .before .before .refuse2 .ensures .1)
 
 take-fields-requires : tie.Need-take-fields-requires
-take-fields-requires c κs = (record-length _ (sym (c .before .before .before .before .before .is-record .ensures) ∙ not-false _ (c .before .before .before .before .if2 .left)), search needs)
+take-fields-requires c κs = (site-sized _ (sym (c .before .before .before .before .before .is-site .ensures) ∙ not-false _ (c .before .before .before .before .if2 .left)), search needs)
 
 same-length-5 : tie.Need-same-length-5
 same-length-5 c = search needs
@@ -55,14 +55,14 @@ same-length-6 c = search needs
 
 returns-4 : tie.Need-returns-4
 unfolding siteCall
-returns-4 c = simp (le-ltb _ _ (c .before .before .before .before .before .before .before .before .before .before .before .before .if1 .left), sym (c .before .before .before .before .before .before .before .before .before .before .is-record .ensures) ∙ not-false _ (c .before .before .before .before .before .before .before .before .before .if2 .left), sym (c .before .before .before .before .before .before .before .before .is-step .ensures) ∙ not-false _ (c .before .before .before .before .before .before .before .if3 .left)) (c .before .before .before .before .take-fields .ensures)
+returns-4 c = simp (le-ltb _ _ (c .before .before .before .before .before .before .before .before .before .before .before .before .if1 .left), sym (c .before .before .before .before .before .before .before .before .before .before .is-site .ensures) ∙ not-false _ (c .before .before .before .before .before .before .before .before .before .if2 .left), sym (c .before .before .before .before .before .before .before .before .is-step .ensures) ∙ not-false _ (c .before .before .before .before .before .before .before .if3 .left)) (c .before .before .before .before .take-fields .ensures)
 
 pub fj-site-step-spec : {M : Type 1} → statement M
 fj-site-step-spec =
     tie.close
     (tie.spec
     returns
-    is-record-requires
+    is-site-requires
     refuse-requires
     same-length
     same-length-2

@@ -2,7 +2,7 @@
 -- Assumes nothing.
 use mathlib.Core.Path.{_∙_}
 use Rattle.embed.specs.SiteCall.{answerBytes}
-use Rattle.embed.proofs.Parts.{put-front}
+use Rattle.embed.proofs.Calls.{put-front}
 use borrow.Author.Needs.{needs}
 use Rattle.embed.proofs.site_calls.put_answer.Statement.{statement}
 use Rattle.embed.proofs.site_calls.put_answer.Tie as tie

@@ -1,18 +1,15 @@
 -- `embed::site_calls::take_step` meets its contract.
 -- Assumes nothing.
-use mathlib.Core.Path.{ap, _∙_}
-use mathlib.Core.List.{List, _++_}
-use Prim.Native.Nat.{ℕ}
-use native.Mathlib.Nat.{le-of-eq}
-use lib.ListN.{drop-of-length-le}
-use Rattle.embed.specs.Bytes.{siteBytes}
+use mathlib.Core.Path.{_∙_}
+use Rattle.packed.specs.Bytes.{siteSize, siteBytes}
+use Rattle.packed.proofs.BytesLaws.{fitting, fitted}
 use Rattle.embed.proofs.Calls.{called-refused, called-accepted}
 use borrow.Author.Needs.{needs}
 use Rattle.embed.proofs.site_calls.take_step.Statement.{statement}
 use Rattle.embed.proofs.site_calls.take_step.Tie as tie
 
-site-from-requires : tie.Need-site-from-requires
-site-from-requires c κs = search needs
+read-site-requires : tie.Need-read-site-requires
+read-site-requires c κs = search needs
 
 step-requires : tie.Need-step-requires
 step-requires c κs = search needs
@@ -30,10 +27,10 @@ same-length-2 : tie.Need-same-length-2
 same-length-2 c = search needs
 
 returns : tie.Need-returns
-returns c = simp (← c .before .before .before .before .before .before .before .before .site-from .ensures, ← c .before .before .before .before .before .before .before .step .ensures) (called-refused (c .before .before .before .before .before .before .before .step .result .outcome) (c .before .before .before .before .before .before .before .before .before .before .before .before .args .site .now) (siteBytes (c .before .before .before .before .before .before .before .step .result .site)) _ _ (c .before .before .before .before .before .put-answer .ensures) _ (c .before .outcome .given .1))
+returns c = simp (← c .before .before .before .before .before .before .before .before .read-site .ensures, ← c .before .before .before .before .before .before .before .step .ensures) (called-refused (c .before .before .before .before .before .before .before .step .result .outcome) (c .before .before .before .before .before .before .before .before .before .before .before .before .args .site .now) (siteBytes (c .before .before .before .before .before .before .before .step .result .site)) _ _ (c .before .before .before .before .before .put-answer .ensures) _ (c .before .outcome .given .1))
 
-put-site-requires : tie.Need-put-site-requires
-put-site-requires c κs = search needs
+write-site-requires : tie.Need-write-site-requires
+write-site-requires c κs = search needs
 
 same-length-3 : tie.Need-same-length-3
 same-length-3 c = search needs
@@ -42,21 +39,20 @@ same-length-4 : tie.Need-same-length-4
 same-length-4 c = search needs
 
 returns-2 : tie.Need-returns-2
-unfolding siteBytes
-returns-2 c = simp (← c .before .before .before .before .before .before .before .before .before .before .site-from .ensures, ← c .before .before .before .before .before .before .before .before .before .step .ensures) (called-accepted (c .before .before .before .before .before .before .before .before .before .step .result .outcome) (c .before .before .before .before .before .before .before .before .before .before .before .before .before .before .args .site .now) (siteBytes (c .before .before .before .before .before .before .before .before .before .step .result .site)) _ _ (c .before .before .before .before .before .before .before .put-answer .ensures) _ (c .before .before .put-site .ensures ∙ ap (λ (l : List ℕ). siteBytes (c .before .before .before .before .before .before .before .before .before .step .result .site) ++ l) (drop-of-length-le (c .before .before .before .before .before .before .before .before .before .before .before .before .before .before .args .site .now) (le-of-eq (c .before .before .before .before .before .before .before .before .before .before .before .before .before .before .pre .0)))) (c .before .before .before .before .match .keys2))
+returns-2 c = simp (← c .before .before .before .before .before .before .before .before .before .before .read-site .ensures, ← c .before .before .before .before .before .before .before .before .before .step .ensures) (called-accepted (c .before .before .before .before .before .before .before .before .before .step .result .outcome) (c .before .before .before .before .before .before .before .before .before .before .before .before .before .before .args .site .now) (siteBytes (c .before .before .before .before .before .before .before .before .before .step .result .site)) _ _ (c .before .before .before .before .before .before .before .put-answer .ensures) _ _ (c .before .before .write-site .ensures .0 ∙ fitting siteSize (c .before .before .before .before .before .before .before .before .before .before .before .before .before .before .args .site .now) (c .before .before .before .before .before .before .before .before .before .before .before .before .before .before .pre .0)) (c .before .before .write-site .ensures .1 ∙ fitted siteSize (c .before .before .before .before .before .before .before .before .before .before .before .before .before .before .args .site .now) (c .before .before .before .before .before .before .before .before .before .before .before .before .before .before .pre .0) (siteBytes (c .before .before .before .before .before .before .before .before .before .step .result .site))) (c .before .before .before .before .match .keys2))
 
 pub take-step-spec : {M : Type 1} → statement M
 take-step-spec =
     tie.close
     (tie.spec
-    site-from-requires
+    read-site-requires
     step-requires
     put-answer-requires
     enum-known-outcome
     same-length
     same-length-2
     returns
-    put-site-requires
+    write-site-requires
     same-length-3
     same-length-4
     returns-2)

@@ -1,7 +1,7 @@
 -- `put_accepted` meets its contract: line after line; each fits because the whole does.
 -- Assumes nothing.
 use Rattle.report.specs.Report.{acceptedText}
-use Rattle.report.proofs.Putting.{begin, fits-next, next, ended}
+use Rattle.text.proofs.Putting.{begin, fits-next, next, ended}
 use borrow.Author.Needs.{needs}
 use Rattle.report.proofs.line.put_accepted.Statement.{statement}
 use Rattle.report.proofs.line.put_accepted.Tie as tie

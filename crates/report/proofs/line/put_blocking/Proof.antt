@@ -1,7 +1,7 @@
 -- `put_blocking` meets its contract: piece after piece.
 -- Assumes nothing.
 use Rattle.report.specs.Report.{blockingLine}
-use Rattle.report.proofs.Putting.{begin, next-by, ended}
+use Rattle.text.proofs.Putting.{begin, next-by, ended}
 use borrow.Author.Needs.{needs}
 use Rattle.report.proofs.line.put_blocking.Statement.{statement}
 use Rattle.report.proofs.line.put_blocking.Tie as tie

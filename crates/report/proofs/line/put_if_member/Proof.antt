@@ -4,7 +4,7 @@ use native.Mathlib.Omega.{arith}
 use borrow.Author.Tests.{eq-eqb, ne-eqb}
 use Rattle.sets.specs.Sets.{bit}
 use Rattle.report.specs.Report.{memberIn}
-use Rattle.report.proofs.Putting.{put-none}
+use Rattle.text.proofs.Putting.{put-none}
 use borrow.Author.Needs.{needs}
 use Rattle.report.proofs.line.put_if_member.Statement.{statement}
 use Rattle.report.proofs.line.put_if_member.Tie as tie

@@ -3,7 +3,7 @@
 use native.Mathlib.Omega.{arith}
 use borrow.Author.Needs.{needs}
 use borrow.Author.Tests.{lt-ltb, le-ltb}
-use Rattle.report.proofs.Putting.{put-none}
+use Rattle.text.proofs.Putting.{put-none}
 use Rattle.report.proofs.line.put_if_standing.Statement.{statement}
 use Rattle.report.proofs.line.put_if_standing.Tie as tie
 

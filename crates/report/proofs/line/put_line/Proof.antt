@@ -1,7 +1,7 @@
 -- `put_line` meets its contract: piece after piece.
 -- Assumes nothing.
 use Rattle.report.specs.Report.{lineOf}
-use Rattle.report.proofs.Putting.{begin, fits-next, next, next-by, ended}
+use Rattle.text.proofs.Putting.{begin, fits-next, next, next-by, ended}
 use borrow.Author.Needs.{needs}
 use Rattle.report.proofs.line.put_line.Statement.{statement}
 use Rattle.report.proofs.line.put_line.Tie as tie

@@ -3,7 +3,7 @@
 use Prim.Native.Nat.{_-_}
 use mathlib.Core.Path.{refl}
 use borrow.Author.Needs.{needs}
-use Rattle.text.specs.TextLaws.{put-length}
+use Rattle.text.proofs.TextLaws.{put-length}
 use Rattle.judge.specs.Facts.{stands}
 use Rattle.report.specs.Report.{lineIn}
 use Rattle.report.proofs.Putting.{Along, along-begins, along-fits, along-on, along-ends}

@@ -1,6 +1,7 @@
 -- `put_member` meets its contract: with the comma or without.
 -- Assumes nothing.
-use Rattle.report.proofs.Putting.{later-going, member-later, member-first, first-room, fits-next, next, ended}
+use Rattle.text.proofs.Putting.{fits-next, next, ended}
+use Rattle.report.proofs.Putting.{later-going, member-later, member-first, first-room}
 use borrow.Author.Needs.{needs}
 use Rattle.report.proofs.line.put_member.Statement.{statement}
 use Rattle.report.proofs.line.put_member.Tie as tie

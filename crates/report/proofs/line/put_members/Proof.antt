@@ -6,7 +6,7 @@ use mathlib.Core.Path.{ap, subst⁻¹}
 use borrow.Author.Needs.{needs}
 use lib.Dec.{ltb}
 use lib.ListN.{length}
-use Rattle.text.specs.TextLaws.{put-length}
+use Rattle.text.proofs.TextLaws.{put-length}
 use Rattle.report.specs.Report.{memberIn}
 use Rattle.report.proofs.Putting.{Along, along-begins, along-fits, along-on, along-ends, along-later}
 use Rattle.report.proofs.line.put_members.Statement.{statement}

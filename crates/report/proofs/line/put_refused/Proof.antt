@@ -1,7 +1,7 @@
 -- `put_refused` meets its contract: piece after piece.
 -- Assumes nothing.
 use Rattle.report.specs.Report.{refusedLine}
-use Rattle.report.proofs.Putting.{begin, next-by, ended}
+use Rattle.text.proofs.Putting.{begin, next-by, ended}
 use borrow.Author.Needs.{needs}
 use Rattle.report.proofs.line.put_refused.Statement.{statement}
 use Rattle.report.proofs.line.put_refused.Tie as tie

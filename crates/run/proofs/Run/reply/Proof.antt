@@ -7,7 +7,8 @@ use Rattle.site.specs.declared.Answer.{Answer}
 use Rattle.site.specs.Step.{stepOf}
 use Rattle.run.specs.Run.{siteAt}
 use Rattle.run.specs.Event.{isActor}
-use Rattle.run.specs.Reply.{settled, unless, unless-some, replyOf, reply-at}
+use Rattle.run.specs.Reply.{replyFrom, orElse, replyOf}
+use Rattle.run.proofs.Replies.{else-some, reply-at}
 use borrow.Author.Needs.{needs}
 use Rattle.run.proofs.Run.reply.Statement.{statement}
 use Rattle.run.proofs.Run.reply.Tie as tie
@@ -36,22 +37,22 @@ returns-3 : tie.Need-returns-3
 returns-3 c =
     sym
     (reply-at (c .before .before .before .before .before .before .before .args .t1) (c .before .before .before .before .before .before .before .args .s) (c .before .before .before .before .before .before .before .args .step) (c .before .before .before .before .before .before .if1 .left) (c .before .before .before .before .before .if2 .left)
-    ∙ ap (λ (g : ℕ). unless g (settled (stepOf (siteAt (c .before .before .before .before .before .before .before .args .t1) (c .before .before .before .before .before .before .before .args .s)) (c .before .before .before .before .before .before .before .args .step) .outcome) (stepOf (siteAt (c .before .before .before .before .before .before .before .args .t1) (c .before .before .before .before .before .before .before .args .s)) (c .before .before .before .before .before .before .before .args .step)))) (sym (c .before .ground .ensures))
-    ∙ unless-some (c .before .ground .result) _ (c .if3 .taken))
+    ∙ ap (λ (g : ℕ). orElse g (replyFrom (stepOf (siteAt (c .before .before .before .before .before .before .before .args .t1) (c .before .before .before .before .before .before .before .args .s)) (c .before .before .before .before .before .before .before .args .step) .outcome) (stepOf (siteAt (c .before .before .before .before .before .before .before .args .t1) (c .before .before .before .before .before .before .before .args .s)) (c .before .before .before .before .before .before .before .args .step)))) (sym (c .before .ground .ensures))
+    ∙ else-some (c .before .ground .result) _ (c .if3 .taken))
 
 step-requires : tie.Need-step-requires
 step-requires c κs = search needs
 
-settled-requires : tie.Need-settled-requires
-settled-requires c κs = search needs
+reply-from-requires : tie.Need-reply-from-requires
+reply-from-requires c κs = search needs
 
 returns-4 : tie.Need-returns-4
 returns-4 c =
-    c .settled .ensures
-    ∙ ap (λ (a : Answer). settled (a .outcome) a) (c .before .step .ensures)
+    c .reply-from .ensures
+    ∙ ap (λ (a : Answer). replyFrom (a .outcome) a) (c .before .step .ensures)
     ∙ sym
     (reply-at (c .before .before .before .before .before .before .before .before .before .args .t1) (c .before .before .before .before .before .before .before .before .before .args .s) (c .before .before .before .before .before .before .before .before .before .args .step) (c .before .before .before .before .before .before .before .before .if1 .left) (c .before .before .before .before .before .before .before .if2 .left)
-    ∙ ap (λ (g : ℕ). unless g (settled (stepOf (siteAt (c .before .before .before .before .before .before .before .before .before .args .t1) (c .before .before .before .before .before .before .before .before .before .args .s)) (c .before .before .before .before .before .before .before .before .before .args .step) .outcome) (stepOf (siteAt (c .before .before .before .before .before .before .before .before .before .args .t1) (c .before .before .before .before .before .before .before .before .before .args .s)) (c .before .before .before .before .before .before .before .before .before .args .step)))) (sym (c .before .before .before .ground .ensures) ∙ c .before .before .if3 .left))
+    ∙ ap (λ (g : ℕ). orElse g (replyFrom (stepOf (siteAt (c .before .before .before .before .before .before .before .before .before .args .t1) (c .before .before .before .before .before .before .before .before .before .args .s)) (c .before .before .before .before .before .before .before .before .before .args .step) .outcome) (stepOf (siteAt (c .before .before .before .before .before .before .before .before .before .args .t1) (c .before .before .before .before .before .before .before .before .before .args .s)) (c .before .before .before .before .before .before .before .before .before .args .step)))) (sym (c .before .before .before .ground .ensures) ∙ c .before .before .if3 .left))
 
 pub reply-spec : {M : Type 1} → statement M
 reply-spec =
@@ -65,5 +66,5 @@ reply-spec =
     ground-requires
     returns-3
     step-requires
-    settled-requires
+    reply-from-requires
     returns-4)

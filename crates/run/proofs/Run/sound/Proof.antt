@@ -6,10 +6,10 @@ use mathlib.Core.Path.{_≡_, refl, sym, ap, _∙_}
 use lib.Dec.{leb}
 use borrow.Author.Tests.{leb-true}
 use Rattle.sets.specs.Sets.{subset, allOf}
-use Rattle.sets.specs.Truths.{and-r}
+use Rattle.sets.proofs.Truths.{and-r}
 use Rattle.run.specs.declared.Run.{Run}
 use Rattle.run.specs.Sound.{every, soundPlace, soundEntry, soundRun}
-use Rattle.run.specs.RunLists.{fails, holds}
+use Rattle.run.proofs.RunLists.{test-fails, test-holds}
 use borrow.Author.Needs.{needs}
 use Rattle.run.proofs.Run.sound.Statement.{statement}
 use Rattle.run.proofs.Run.sound.Tie as tie
@@ -43,7 +43,7 @@ is-count-requires : tie.Need-is-count-requires
 is-count-requires c κs = search needs
 
 returns : tie.Need-returns
-returns c = sym (not-sound (c .before .before .args .t1) (fails (c .before .is-count .ensures) (c .if1 .taken)))
+returns c = sym (not-sound (c .before .before .args .t1) (test-fails (c .before .is-count .ensures) (c .if1 .taken)))
 
 all-of-requires : tie.Need-all-of-requires
 all-of-requires c κs = search needs
@@ -52,20 +52,20 @@ subset-requires : tie.Need-subset-requires
 subset-requires c κs = search needs
 
 returns-2 : tie.Need-returns-2
-returns-2 c = sym (sound-if (c .before .before .before .before .before .args .t1) (holds (c .before .before .before .before .is-count .ensures) (c .before .before .before .if1 .left)) ∙ simp (fails (c .before .subset .ensures ∙ ap (subset (c .before .before .before .before .before .args .t1 .stopped)) (c .before .before .all-of .ensures)) (c .if2 .taken)))
+returns-2 c = sym (sound-if (c .before .before .before .before .before .args .t1) (test-holds (c .before .before .before .before .is-count .ensures) (c .before .before .before .if1 .left)) ∙ simp (test-fails (c .before .subset .ensures ∙ ap (subset (c .before .before .before .before .before .args .t1 .stopped)) (c .before .before .all-of .ensures)) (c .if2 .taken)))
 
 sound-places-requires : tie.Need-sound-places-requires
-sound-places-requires c κs = leb-true (c .before .before .before .before .before .args .t1 .n) 8 (and-r (leb 2 (c .before .before .before .before .before .args .t1 .n)) (leb (c .before .before .before .before .before .args .t1 .n) 8) (holds (c .before .before .before .before .is-count .ensures) (c .before .before .before .if1 .left)))
+sound-places-requires c κs = leb-true (c .before .before .before .before .before .args .t1 .n) 8 (and-r (leb 2 (c .before .before .before .before .before .args .t1 .n)) (leb (c .before .before .before .before .before .args .t1 .n) 8) (test-holds (c .before .before .before .before .is-count .ensures) (c .before .before .before .if1 .left)))
 
 returns-3 : tie.Need-returns-3
-returns-3 c = sym (sound-if (c .before .before .before .before .before .before .before .args .t1) (holds (c .before .before .before .before .before .before .is-count .ensures) (c .before .before .before .before .before .if1 .left)) ∙ simp (holds (c .before .before .before .subset .ensures ∙ ap (subset (c .before .before .before .before .before .before .before .args .t1 .stopped)) (c .before .before .before .before .all-of .ensures)) (c .before .before .if2 .left), fails (c .before .sound-places .ensures) (c .if3 .taken)))
+returns-3 c = sym (sound-if (c .before .before .before .before .before .before .before .args .t1) (test-holds (c .before .before .before .before .before .before .is-count .ensures) (c .before .before .before .before .before .if1 .left)) ∙ simp (test-holds (c .before .before .before .subset .ensures ∙ ap (subset (c .before .before .before .before .before .before .before .args .t1 .stopped)) (c .before .before .before .before .all-of .ensures)) (c .before .before .if2 .left), test-fails (c .before .sound-places .ensures) (c .if3 .taken)))
 
 sound-requires : tie.Need-sound-requires
 sound-requires c κs = search needs
 
 returns-4 : tie.Need-returns-4
 unfolding soundEntry
-returns-4 c = c .sound .ensures ∙ sym (by-messages (c .before .before .before .before .before .before .before .before .before .before .args .t1) (holds (c .before .before .before .before .before .before .before .before .before .is-count .ensures) (c .before .before .before .before .before .before .before .before .if1 .left)) (holds (c .before .before .before .before .before .before .subset .ensures ∙ ap (subset (c .before .before .before .before .before .before .before .before .before .before .args .t1 .stopped)) (c .before .before .before .before .before .before .before .all-of .ensures)) (c .before .before .before .before .before .if2 .left)) (holds (c .before .before .before .before .sound-places .ensures) (c .before .before .before .if3 .left)))
+returns-4 c = c .sound .ensures ∙ sym (by-messages (c .before .before .before .before .before .before .before .before .before .before .args .t1) (test-holds (c .before .before .before .before .before .before .before .before .before .is-count .ensures) (c .before .before .before .before .before .before .before .before .if1 .left)) (test-holds (c .before .before .before .before .before .before .subset .ensures ∙ ap (subset (c .before .before .before .before .before .before .before .before .before .before .args .t1 .stopped)) (c .before .before .before .before .before .before .before .all-of .ensures)) (c .before .before .before .before .before .if2 .left)) (test-holds (c .before .before .before .before .sound-places .ensures) (c .before .before .before .if3 .left)))
 
 pub sound-spec : {M : Type 1} → statement M
 sound-spec =

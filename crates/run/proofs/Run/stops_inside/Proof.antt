@@ -2,11 +2,12 @@
 -- Assumes nothing.
 use mathlib.Core.Path.{sym, ap, _∙_}
 use Prim.Native.Nat.{ℕ}
+use native.Mathlib.Omega.{arith}
 use Rattle.sets.specs.Sets.{countOf}
 use Rattle.run.specs.declared.Run.{Run}
-use Rattle.run.specs.Run.{sentBy, stoppedAt}
-use Rattle.run.specs.Event.{takenRun, cutShort}
-use Rattle.run.specs.Reply.{come, short, cut-is}
+use Rattle.run.specs.Run.{siteAt}
+use Rattle.run.specs.Event.{takenRun, halting, applied}
+use Rattle.run.proofs.Replies.{come, short, cut-is, answers}
 use borrow.Author.Needs.{needs}
 use Rattle.run.proofs.Run.stops_inside.Statement.{statement}
 use Rattle.run.proofs.Run.stops_inside.Tie as tie
@@ -17,11 +18,32 @@ reply-requires c κs = search needs
 enum-known-answer : tie.Need-enum-known-answer
 enum-known-answer c = search needs
 
+sub-i : tie.Need-sub-i
+sub-i c =
+    let h = answers (c .before .before .before .before .args .t1) (c .before .before .before .before .args .s) (c .before .before .before .before .args .step) _ (sym (c .before .before .before .reply .ensures) ∙ c .before .answer .given .1) in
+    omega (arith, h .least)
+
+cast-i : tie.Need-cast-i
+cast-i c = search needs
+
+mul-site : tie.Need-mul-site
+mul-site c = search needs
+
+element-copy-out-site : tie.Need-element-copy-out-site
+element-copy-out-site c =
+    let h = answers (c .before .before .before .before .args .t1) (c .before .before .before .before .args .s) (c .before .before .before .before .args .step) _ (sym (c .before .before .before .reply .ensures) ∙ c .before .answer .given .1) in
+    search (needs, h .most, c .before .before .before .before .pre)
+
 both-requires : tie.Need-both-requires
 both-requires c κs = search needs
 
-cut-short-requires : tie.Need-cut-short-requires
-cut-short-requires c κs = search needs
+halt-requires : tie.Need-halt-requires
+halt-requires c κs = search needs
+
+put-requires : tie.Need-put-requires
+put-requires c κs =
+    let h = answers (c .before .before .before .before .before .before .before .args .t1) (c .before .before .before .before .before .before .before .args .s) (c .before .before .before .before .before .before .before .args .step) _ (sym (c .before .before .before .before .before .before .reply .ensures) ∙ c .before .before .before .before .answer .given .1) in
+    (h .least, omega (arith, h .most, c .before .before .before .before .before .before .before .pre))
 
 count-requires : tie.Need-count-requires
 count-requires c κs = search needs
@@ -36,18 +58,15 @@ refused-requires : tie.Need-refused-requires
 refused-requires c κs = search needs
 
 returns : tie.Need-returns
-unfolding cutShort
 returns c =
     c .taken .ensures
-    ∙ ap (λ (r : Run). takenRun r (c .before .count .result)) (c .before .before .cut-short .ensures)
-    ∙ ap (takenRun (sentBy (stoppedAt (c .before .before .before .before .before .before .before .before .args .self) (c .before .before .before .before .before .before .before .before .args .s)) (c .before .before .before .before .before .answer .given .0 .0 .kind) (c .before .before .before .before .before .before .before .before .args .s) (c .before .before .before .both .result))) (c .before .count .ensures)
-    ∙ ap (λ (m : ℕ). takenRun (sentBy (stoppedAt (c .before .before .before .before .before .before .before .before .args .self) (c .before .before .before .before .before .before .before .before .args .s)) (c .before .before .before .before .before .answer .given .0 .0 .kind) (c .before .before .before .before .before .before .before .before .args .s) m) (countOf m)) (c .before .before .before .both .ensures)
-    ∙ sym (cut-is (c .before .before .before .before .before .before .before .before .args .self) (c .before .before .before .before .before .before .before .before .args .s) (c .before .before .before .before .before .before .before .before .args .step) (c .before .before .before .before .before .before .before .before .args .x) ∙ ap (come (c .before .before .before .before .before .before .before .before .args .self) (short (c .before .before .before .before .before .before .before .before .args .self) (c .before .before .before .before .before .before .before .before .args .s) (c .before .before .before .before .before .before .before .before .args .x))) (sym (c .before .before .before .before .before .before .before .reply .ensures) ∙ c .before .before .before .before .before .answer .given .1))
+    ∙ ap (λ (r : Run). takenRun r (c .before .count .result)) (c .before .before .put .ensures ∙ ap (applied (c .before .before .before .before .before .before .before .before .before .before .args .t1) (c .before .before .before .before .before .before .before .before .before .before .args .s)) (c .before .before .before .halt .ensures))
+    ∙ ap (takenRun (applied (c .before .before .before .before .before .before .before .before .before .before .args .t1) (c .before .before .before .before .before .before .before .before .before .before .args .s) (halting (siteAt (c .before .before .before .before .before .before .before .before .before .before .args .t1) (c .before .before .before .before .before .before .before .before .before .before .args .s)) (c .before .before .before .before .before .before .before .answer .given .0 .0 .kind) (c .before .before .before .before .both .result)))) (c .before .count .ensures)
+    ∙ ap (λ (m : ℕ). takenRun (applied (c .before .before .before .before .before .before .before .before .before .before .args .t1) (c .before .before .before .before .before .before .before .before .before .before .args .s) (halting (siteAt (c .before .before .before .before .before .before .before .before .before .before .args .t1) (c .before .before .before .before .before .before .before .before .before .before .args .s)) (c .before .before .before .before .before .before .before .answer .given .0 .0 .kind) m)) (countOf m)) (c .before .before .before .before .both .ensures)
+    ∙ sym (cut-is (c .before .before .before .before .before .before .before .before .before .before .args .t1) (c .before .before .before .before .before .before .before .before .before .before .args .s) (c .before .before .before .before .before .before .before .before .before .before .args .step) (c .before .before .before .before .before .before .before .before .before .before .args .x) ∙ ap (come (c .before .before .before .before .before .before .before .before .before .before .args .t1) (short (c .before .before .before .before .before .before .before .before .before .before .args .t1) (c .before .before .before .before .before .before .before .before .before .before .args .s) (c .before .before .before .before .before .before .before .before .before .before .args .x))) (sym (c .before .before .before .before .before .before .before .before .before .reply .ensures) ∙ c .before .before .before .before .before .before .before .answer .given .1))
 
 returns-2 : tie.Need-returns-2
-returns-2 c =
-    c .refused .ensures
-    ∙ sym (cut-is (c .before .before .before .before .before .args .self) (c .before .before .before .before .before .args .s) (c .before .before .before .before .before .args .step) (c .before .before .before .before .before .args .x) ∙ ap (come (c .before .before .before .before .before .args .self) (short (c .before .before .before .before .before .args .self) (c .before .before .before .before .before .args .s) (c .before .before .before .before .before .args .x))) (sym (c .before .before .before .before .reply .ensures) ∙ c .before .before .ground .given .1))
+returns-2 c = c .refused .ensures ∙ sym (cut-is (c .before .before .before .before .before .args .t1) (c .before .before .before .before .before .args .s) (c .before .before .before .before .before .args .step) (c .before .before .before .before .before .args .x) ∙ ap (come (c .before .before .before .before .before .args .t1) (short (c .before .before .before .before .before .args .t1) (c .before .before .before .before .before .args .s) (c .before .before .before .before .before .args .x))) (sym (c .before .before .before .before .reply .ensures) ∙ c .before .before .ground .given .1))
 
 pub stops-inside-spec : {M : Type 1} → statement M
 stops-inside-spec =
@@ -55,8 +74,13 @@ stops-inside-spec =
     (tie.spec
     reply-requires
     enum-known-answer
+    sub-i
+    cast-i
+    mul-site
+    element-copy-out-site
     both-requires
-    cut-short-requires
+    halt-requires
+    put-requires
     count-requires
     taken-requires
     enum-known-ground

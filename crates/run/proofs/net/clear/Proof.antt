@@ -6,7 +6,7 @@ use mathlib.Core.Path.{_≡_, _∙_, sym, ap}
 use lib.ListN.{set, getD}
 use native.Mathlib.Omega.{arith}
 use Rattle.sets.specs.Sets.{minus}
-use Rattle.run.specs.RunLists.{mapTo, mapTo-none, mapTo-more, mapTo-all}
+use Rattle.run.proofs.RunLists.{mapTo, mapTo-none, mapTo-more, mapTo-all}
 use borrow.Author.Needs.{needs}
 use Rattle.run.proofs.net.clear.Statement.{statement}
 use Rattle.run.proofs.net.clear.Tie as tie

@@ -5,7 +5,7 @@ use Prim.Native.Nat.{ℕ}
 use lib.ListN.{getD, List·getD-eq-default}
 use native.Mathlib.Omega.{arith}
 use Rattle.sets.specs.Sets.{has}
-use Rattle.sets.specs.SetLaws.{has-none}
+use Rattle.sets.proofs.SetLaws.{has-none}
 use borrow.Author.Needs.{needs}
 use Rattle.run.proofs.net.holds.Statement.{statement}
 use Rattle.run.proofs.net.holds.Tie as tie

@@ -9,7 +9,7 @@ use lib.ListN.{getD}
 use native.Mathlib.Omega.{arith}
 use Rattle.sets.specs.Sets.{minus, subset}
 use Rattle.run.specs.Sound.{every, mayReach}
-use Rattle.run.specs.RunLists.{every-more, every-fails, every-all, fails, holds}
+use Rattle.run.proofs.RunLists.{every-more, every-fails, every-up, test-fails, test-holds}
 use Rattle.run.proofs.net.sound.Statement.{statement}
 use Rattle.run.proofs.net.sound.Tie as tie
 
@@ -35,7 +35,7 @@ sound-entry-requires : tie.Need-sound-entry-requires Inv-loop μ-loop
 sound-entry-requires c κs = search needs
 
 returns : tie.Need-returns Inv-loop μ-loop
-returns c = sym (every-fails (right (c .before .before .before .before .before .args .net .now) (c .before .before .before .before .before .args .n) (c .before .before .before .before .before .args .stopped)) 72 (c .before .before .before .before .loop .at) (omega arith) (fails (c .before .sound-entry .ensures) (c .if1 .taken)))
+returns c = sym (every-fails (right (c .before .before .before .before .before .args .net .now) (c .before .before .before .before .before .args .n) (c .before .before .before .before .before .args .stopped)) 72 (c .before .before .before .before .loop .at) (omega arith) (test-fails (c .before .sound-entry .ensures) (c .if1 .taken)))
 
 add-at : tie.Need-add-at Inv-loop μ-loop
 add-at c = search needs
@@ -44,10 +44,10 @@ loop-less : tie.Need-loop-less Inv-loop μ-loop
 loop-less c = search needs
 
 loop-again : tie.Need-loop-again Inv-loop μ-loop
-loop-again c = (search needs, every-more (right (c .before .before .before .before .before .args .net .now) (c .before .before .before .before .before .args .n) (c .before .before .before .before .before .args .stopped)) (c .before .before .before .before .loop .at) (c .before .before .before .before .loop .inv .1) (holds (c .before .sound-entry .ensures) (c .if1 .left)))
+loop-again c = (search needs, every-more (right (c .before .before .before .before .before .args .net .now) (c .before .before .before .before .before .args .n) (c .before .before .before .before .before .args .stopped)) (c .before .before .before .before .loop .at) (c .before .before .before .before .loop .inv .1) (test-holds (c .before .sound-entry .ensures) (c .if1 .left)))
 
 returns-2 : tie.Need-returns-2 Inv-loop μ-loop
-returns-2 c = sym (every-all (right (c .before .before .args .net .now) (c .before .before .args .n) (c .before .before .args .stopped)) 72 (c .before .loop .at) (omega arith) (omega arith) (c .before .loop .inv .1))
+returns-2 c = sym (every-up (right (c .before .before .args .net .now) (c .before .before .args .n) (c .before .before .args .stopped)) 72 (c .before .loop .at) (omega arith) (omega arith) (c .before .loop .inv .1))
 
 pub sound-spec : {M : Type 1} → statement M
 sound-spec =

@@ -3,7 +3,7 @@
 use mathlib.Core.Bool.{true≢false}
 use mathlib.Core.Path.{sym, _∙_}
 use Rattle.sets.specs.Sets.{subset}
-use Rattle.sets.specs.SetLaws.{subset-of, has-none}
+use Rattle.sets.proofs.SetLaws.{subset-of, has-none}
 use borrow.Author.Needs.{needs}
 use Rattle.run.proofs.net.sound_entry.Statement.{statement}
 use Rattle.run.proofs.net.sound_entry.Tie as tie

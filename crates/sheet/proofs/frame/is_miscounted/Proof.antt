@@ -3,7 +3,7 @@
 use Prim.Native.Nat.{_-_}
 use mathlib.Core.Bool.{true}
 use mathlib.Core.Path.{_≡_, sym}
-use Rattle.sheet.specs.IndexLaws.{Unfound, some-found, search-begins, search-goes-on, search-ends}
+use Rattle.sheet.proofs.IndexLaws.{Unfound, some-found, search-begins, search-goes-on, search-ends}
 use Rattle.sheet.specs.Grounds.{miscountedAt, miscounted}
 use borrow.Author.Needs.{needs}
 use Rattle.sheet.proofs.frame.is_miscounted.Statement.{statement}

@@ -2,7 +2,7 @@
 -- Assumes nothing.
 use mathlib.Core.Path.{sym, _∙_}
 use Rattle.sheet.specs.Grounds.{unranged, partsGround}
-use Rattle.sheet.specs.FineLaws.{sited}
+use Rattle.sheet.proofs.FineLaws.{sited}
 use Rattle.sheet.proofs.Faults.{fault-25, fault-26, fault-28}
 use borrow.Author.Needs.{needs}
 use Rattle.sheet.proofs.grounds.parts_ground.Statement.{statement}

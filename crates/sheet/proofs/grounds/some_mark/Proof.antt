@@ -2,7 +2,7 @@
 -- Assumes nothing.
 use Prim.Native.Nat.{_-_}
 use mathlib.Core.Path.{sym}
-use Rattle.sheet.specs.IndexLaws.{Unfound, some-found, search-begins, search-goes-on, search-ends}
+use Rattle.sheet.proofs.IndexLaws.{Unfound, some-found, search-begins, search-goes-on, search-ends}
 use borrow.Author.Tests.{lt-ltb, le-ltb}
 use Rattle.sheet.specs.Grounds.{mismarked}
 use borrow.Author.Needs.{needs}

@@ -2,7 +2,7 @@
 -- Assumes nothing.
 use Prim.Native.Nat.{_-_}
 use mathlib.Core.Path.{sym, _∙_}
-use Rattle.sheet.specs.IndexLaws.{Unfound, some-found, search-begins, search-goes-on, search-ends}
+use Rattle.sheet.proofs.IndexLaws.{Unfound, some-found, search-begins, search-goes-on, search-ends}
 use Rattle.sheet.specs.Grounds.{someMove}
 use Rattle.sheet.specs.Faults.{faultOf}
 use Rattle.sheet.specs.Record.{moveOf}

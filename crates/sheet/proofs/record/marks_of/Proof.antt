@@ -5,7 +5,7 @@ use mathlib.Core.Path.{_≡_, _∙_}
 use native.Mathlib.Omega.{arith}
 use lib.Dec.{ltb}
 use lib.ListN.{getD}
-use Rattle.sheet.specs.IndexLaws.{Filled, filling-begins, filling-goes-on, filling-ends}
+use Rattle.sheet.proofs.IndexLaws.{Filled, filling-begins, filling-goes-on, filling-ends}
 use Rattle.sheet.specs.Record.{markRead}
 use Rattle.sheet.proofs.Marks.{passed, passed-none, passed-more, one-at-most, mark-is}
 use borrow.Author.Needs.{needs}

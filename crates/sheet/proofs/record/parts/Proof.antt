@@ -4,8 +4,8 @@ use Prim.Native.Nat.{_-_}
 use mathlib.Core.Path.{_≡_, ap, _∙_}
 use native.Mathlib.Omega.{arith}
 use Rattle.sheet.specs.Record.{byte, sitesOf, countsOf, movesOf, firstAt, partsBy}
-use Rattle.sheet.specs.GroundLaws.{framed}
-use Rattle.sheet.specs.FineLaws.{moves-few, whole, count-few}
+use Rattle.sheet.proofs.GroundLaws.{framed}
+use Rattle.sheet.proofs.FineLaws.{moves-few, whole, count-few}
 use borrow.Author.Needs.{needs}
 use Rattle.sheet.proofs.record.parts.Statement.{statement}
 use Rattle.sheet.proofs.record.parts.Tie as tie

@@ -7,7 +7,7 @@ use borrow.Author.Needs.{needs}
 use mir.Syntax.{w8}
 use mir.Val.{Fits}
 use lib.ListN.{getD}
-use Rattle.sheet.specs.IndexLaws.{sum-none, sum-more}
+use Rattle.sheet.proofs.IndexLaws.{sum-none, sum-more}
 use Rattle.sheet.specs.Record.{statesBefore}
 use Rattle.sheet.proofs.record.states_of.Statement.{statement}
 use Rattle.sheet.proofs.record.states_of.Tie as tie

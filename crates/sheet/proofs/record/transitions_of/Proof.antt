@@ -7,7 +7,7 @@ use borrow.Author.Needs.{needs}
 use borrow.Author.Tests.{lt-ltb, le-ltb}
 use lib.ListN.{getD, getD-replicate}
 use lib.Seq.{getD-set-other}
-use Rattle.sheet.specs.IndexLaws.{Filled, filling-begins, filling-goes-on, filling-rest, filling-ends}
+use Rattle.sheet.proofs.IndexLaws.{Filled, filling-begins, filling-goes-on, filling-rest, filling-ends}
 use Rattle.sheet.specs.Record.{transitionIn, noTransition}
 use Rattle.sheet.proofs.record.transitions_of.Statement.{statement}
 use Rattle.sheet.proofs.record.transitions_of.Tie as tie

@@ -17,13 +17,13 @@ returns : tie.Need-returns
 unfolding takeOverOf
 returns c = simp (c .refused .ensures, sym (c .before .before .may-lead .ensures) ∙ not-true _ (c .before .if1 .taken))
 
-leads-requires : tie.Need-leads-requires
-leads-requires c κs = search needs
+takes-lead-requires : tie.Need-takes-lead-requires
+takes-lead-requires c κs = search needs
 
 returns-2 : tie.Need-returns-2
 unfolding takeOverOf
-returns-2 c = simp (c .leads .ensures, sym (c .before .before .may-lead .ensures) ∙ not-false _ (c .before .if1 .left))
+returns-2 c = simp (c .takes-lead .ensures, sym (c .before .before .may-lead .ensures) ∙ not-false _ (c .before .if1 .left))
 
 pub take-over-spec : {M : Type 1} → statement M
 take-over-spec =
-    tie.close (tie.spec may-lead-requires refused-requires returns leads-requires returns-2)
+    tie.close (tie.spec may-lead-requires refused-requires returns takes-lead-requires returns-2)

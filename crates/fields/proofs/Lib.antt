@@ -1,0 +1,2 @@
+-- Fields and events belong together.
+pub mod FieldsLaws

@@ -1,0 +1,2 @@
+-- Sites and runs as bytes.
+pub mod Bytes

@@ -1,0 +1,4 @@
+-- What follows for decimal numbers, and for parts put one after another.
+pub mod DecimalLaws
+pub mod TextLaws
+pub mod Putting
