@@ -4,6 +4,7 @@ use Prim.Native.Nat.{ℕ}
 use mathlib.Core.List.{List}
 use Rattle.site.specs.declared.Outcome.{Outcome}
 use Rattle.site.specs.declared.Outcome.the-variants.{Taken, Passed, Refused}
+use Rattle.site.specs.Step.{numberOf}
 
 -- 0 taken, 1 passed, 2 refused
 abbrev pub outcomeByte : Outcome → ℕ
@@ -27,8 +28,11 @@ leaves r room = record { returned = r; room = room }
 abbrev pub leavesBoth : ℕ → List ℕ → List ℕ → LeftBoth
 leavesBoth r bytes answer = record { returned = r; bytes = bytes; answer = answer }
 
--- taken or passed over, a call leaves a record's new bytes; a refusal leaves the old ones
+-- a record's bytes after a call: new where it was taken or passed over, the old ones where it was refused
+abbrev pub bytesAfter : Outcome → List ℕ → List ℕ → List ℕ
+bytesAfter Taken old new = new
+bytesAfter Passed old new = new
+bytesAfter (Refused g) old new = old
+
 abbrev pub called : Outcome → List ℕ → List ℕ → List ℕ → LeftBoth
-called Taken old new answer = leavesBoth 0 new answer
-called Passed old new answer = leavesBoth 0 new answer
-called (Refused g) old new answer = leavesBoth g old answer
+called o old new answer = leavesBoth (numberOf o) (bytesAfter o old new) answer

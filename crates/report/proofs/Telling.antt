@@ -7,7 +7,7 @@ use native.Mathlib.Omega.{arith}
 use borrow.Author.Tests.{eq-eqb, ne-eqb}
 use lib.ListN.{length, drop}
 use Rattle.text.specs.Text.{Put}
-use Rattle.sheet.specs.Grounds.{groundOf, sheetOf}
+use Rattle.sheet.specs.Grounds.{sheetGround, sheetOf}
 use Rattle.sheet.specs.declared.Sheet.{Sheet}
 use Rattle.judge.specs.Facts.{Says}
 use Rattle.judge.specs.Outcome.{Outcome, Judged}
@@ -19,7 +19,7 @@ use Rattle.report.specs.Report.Reported.{told}
 
 -- no ground stands against an accepted record, and its verdict says what is so
 pub record Accepted (b : List ℕ) (v : Verdict) : Type 0 where
-  pub read : groundOf b ≡ 0
+  pub read : sheetGround b ≡ 0
   pub few : v .states ≤ 4096
   pub says : Says (sheetOf b) v
 

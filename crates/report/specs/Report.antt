@@ -5,7 +5,8 @@ use mathlib.Core.Bool.{Bool, cond}
 use mathlib.Core.List.{List, [], _∷_, _++_, flatten}
 use mathlib.Core.Path.{_≡_}
 use lib.Dec.{eqb, ltb}
-use lib.ListN.{length, getD, drop, replicate}
+use mathlib.Core.Logic.{_≢_}
+use lib.ListN.{length, getD, drop}
 use Rattle.text.specs.Said.{said}
 use Rattle.text.specs.Decimal.{decimal}
 use Rattle.sets.specs.Sets.{bit}
@@ -108,13 +109,18 @@ textOf s v = cond (eqb (v .refusal) 0) (acceptedText s v) (refusedLine (v .refus
 abbrev pub longest : ℕ
 longest = 3722
 
--- room for any report
-unfoldable pub anyRoom : List ℕ
-anyRoom = replicate longest 0
-
 -- what is left of bytes, words and room: with less room than the longest text nothing is touched and the answer is 0; else the sheet is
 -- judged, its text stands at the start, the rest of the room is unchanged, and the answer is the length
 pub data Reported (bytes w₀ w t₀ t : List ℕ) (r : ℕ) : Type 0 where
   cramped : length t₀ < longest → w ≡ w₀ → t ≡ t₀ → r ≡ 0 → Reported bytes w₀ w t₀ t r
   told : longest ≤ length t₀ → (v : Verdict) → Outcome bytes w₀ w v → r ≡ length (textOf (sheetOf bytes) v)
       → t ≡ textOf (sheetOf bytes) v ++ drop r t₀ → Reported bytes w₀ w t₀ t r
+
+-- with room for any report and words for any sheet: the sheet is judged, and never refused for want of words; its whole text stands at the start,
+-- the rest of the room is unchanged, and the answer is the length
+pub record ToldWhole (bytes w₀ w t₀ t : List ℕ) (r : ℕ) : Type 0 where
+  pub verdict : Verdict
+  pub outcome : Outcome bytes w₀ w verdict
+  pub worded : verdict .refusal ≢ 20
+  pub size : r ≡ length (textOf (sheetOf bytes) verdict)
+  pub text : t ≡ textOf (sheetOf bytes) verdict ++ drop r t₀

@@ -1,18 +1,11 @@
 // The report on a protocol sheet, as text in lent bytes (01, "The sheet program reads a sheet").
 ghost use mathlib.Core.Path.{_≡_};
-ghost use Rattle.report.specs.Report.{Reported, anyRoom};
+ghost use Rattle.report.specs.Report.{Reported};
 
 mod line;
 
-// The longest text: see specs/Report.antt.
-const LONGEST: usize = 3722;
-
-// Room for the report on any sheet.
-pub fn any_room() -> [u8; LONGEST]
-    ensures { λ r. ⌜ r ≡ anyRoom ⌝ }
-{
-    [0u8; LONGEST]
-}
+// The longest text, so room for the report on any sheet: see specs/Report.antt.
+pub const LONGEST: usize = 3722;
 
 // Judges the sheet in `bytes` and writes the report on it at the start of `out`; answers its length. Where `out` has less room than the longest
 // text, nothing is touched and the answer is 0.

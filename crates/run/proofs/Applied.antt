@@ -243,3 +243,25 @@ unfolding sentBy stoppedAt hasRow isSite
 stop-applied r s h =
     halt-applied r s 0 0 h
     ∙ ap (λ (l : List ℕ). remade r (withSite (r .stopped) s) (r .sites) l) (set-out (stoppedIn (r .net) s) (place 0 s) _ (omega (arith, h .net, length-map (r .net) (λ (m : ℕ). without m s), place-none 0 s refl)))
+
+-- ---- as the code puts it
+
+-- the stopped sites and the network once site s has stopped, if it does
+abbrev pub stoppedNow : Run → ℕ → Bool → ℕ
+stoppedNow r s b = cond b (withSite (r .stopped) s) (r .stopped)
+
+abbrev pub netNow : List ℕ → ℕ → Bool → List ℕ
+netNow net s b = cond b (stoppedIn net s) net
+
+pub net-long : (net : List ℕ) (s : ℕ) (b : Bool) → length (netNow net s b) ≡ length net
+net-long net s true = length-map net (λ (m : ℕ). without m s)
+net-long net s false = refl
+
+-- part by part it is what was to be put
+pub put-is : (r : Run) (s : ℕ) (x : Effect) → remade r (stoppedNow r s (x .stops)) (set (r .sites) (s - 1) (x .site)) (sentIn (netNow (takenIn (r .net) (x .got) (x .from) s) s (x .stops)) (x .kind) s (minus (x .to) (stoppedNow r s (x .stops)))) ≡ applied r s x
+unfolding applied sentBy stoppedAt takenOut
+put-is r s x = go (x .stops)
+  where
+    go : (b : Bool) → remade r (stoppedNow r s b) (set (r .sites) (s - 1) (x .site)) (sentIn (netNow (takenIn (r .net) (x .got) (x .from) s) s b) (x .kind) s (minus (x .to) (stoppedNow r s b))) ≡ sentBy (haltedAt (takenOut (withRecord r s (x .site)) (x .got) (x .from) s) s b) (x .kind) s (x .to)
+    go true = refl
+    go false = refl

@@ -34,6 +34,10 @@ theRun t = t .run
 abbrev pub nextWith : Ran → Bool → Next
 nextWith x good = record { tested = record { run = x .run; good = good }; outcome = x .outcome; counts = x .counts }
 
--- an event of a run: ground 1 is tested where the run was not found good
+-- the run was found good; no run of more than eight sites is
+abbrev pub isKnown : Tested → Bool
+isKnown t = t .good && leb (t .run .n) 8
+
+-- an event of a run: ground 1 is tested where the run is not known to be good
 unfoldable pub goneOn : Tested → Event → Next
-goneOn t e = cond (t .good && leb (t .run .n) 8) (nextWith (goesOf (t .run) e) true) (nextWith (eventOf (t .run) e) false)
+goneOn t e = nextWith (cond (isKnown t) (goesOf (t .run) e) (eventOf (t .run) e)) (isKnown t)

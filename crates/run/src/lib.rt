@@ -2,16 +2,16 @@
 // An event takes any run. What it cannot accept it refuses with 01's number, and the run comes back as it was.
 
 ghost use mathlib.Core.Path.{_≡_};
-ghost use mathlib.Core.Bool.{not, _&&_, _||_};
+ghost use mathlib.Core.Bool.{true, cond, not, _&&_, _||_};
 ghost use Prim.Native.Nat.{ℕ, _+_, _≤_};
 ghost use lib.Dec.{eqb, leb};
 ghost use lib.ListN.{length};
-ghost use Rattle.sets.specs.Sets.{has, subset, belowOf};
+ghost use Rattle.sets.specs.Sets.{has, subset, belowOf, withSite};
 ghost use Rattle.site.specs.Site.{soundOf};
 ghost use Rattle.run.specs.Run.{freshSite, freshRun};
 ghost use Rattle.run.specs.Sound.{every, soundPlace, soundRun};
-ghost use Rattle.run.specs.Event.{refusedRun, takenRun, freshOf, gotBy, gotFrom, wholeStep, halting, haltedAt, applied, goesOf, eventOf};
-ghost use Rattle.run.specs.Tested.{orderedPlace, goodRun, testedOf, theRun, nextWith, goneOn};
+ghost use Rattle.run.specs.Event.{refusedRun, takenRun, freshOf, gotBy, gotFrom, wholeStep, halting, applied, goesOf, eventOf};
+ghost use Rattle.run.specs.Tested.{orderedPlace, goodRun, testedOf, theRun, goneOn};
 ghost use Rattle.run.specs.Reply.{thereIn, stepGroundIn, replyFrom, replyOf};
 use site::Answer;
 use site::Counts;
@@ -255,6 +255,16 @@ fn whole(step: Step, answer: Answer) -> Effect
     }
 }
 
+// The stopped sites, and site s with them if it stops.
+fn stopped_with(stopped: u8, s: u8, stops: bool) -> u8
+    ensures { λ r. ⌜ r ≡ cond stops (withSite stopped s) stopped ⌝ }
+{
+    if !stops {
+        return stopped;
+    }
+    sets::with(stopped, s)
+}
+
 // What a stop does, after messages of a kind to some sites have left: the record stays.
 fn halt(site: Site, kind: u8, to: u8) -> Effect
     ensures { λ r. ⌜ r ≡ halting site kind to ⌝ }
@@ -356,32 +366,21 @@ impl Run {
         reply_from(site.step(step))
     }
 
-    // Site s stops, if it does: what is addressed to it leaves the network.
-    fn halted(mut self, s: u8, stops: bool) -> Run
-        ensures { λ r. ⌜ r ≡ haltedAt self s stops ⌝ }
-    {
-        if !stops {
-            return self;
-        }
-        self.stopped = sets::with(self.stopped, s);
-        net::clear(&mut self.net, sets::weight(s));
-        self
-    }
-
     // What an event of site s does is put into the run. Messages to stopped sites do not enter the network.
-    fn put(self, s: u8, effect: Effect) -> Run
+    fn put(mut self, s: u8, effect: Effect) -> Run
         requires { ⌜ (1 ≤ s) × (s ≤ 8) ⌝ }
         ensures { λ r. ⌜ r ≡ applied self s effect ⌝ }
     {
         let i = (s - 1) as usize;
         let site = effect.site;
-        let mut with = self;
-        with.sites[i] = site;
-        net::take_out(&mut with.net, effect.got, effect.from, s);
-        let mut next = with.halted(s, effect.stops);
-        let entering = sets::minus(effect.to, next.stopped);
-        net::send(&mut next.net, effect.kind, s, entering);
-        next
+        let stops = effect.stops;
+        self.sites[i] = site;
+        net::take_out(&mut self.net, effect.got, effect.from, s);
+        self.stopped = stopped_with(self.stopped, s, stops);
+        net::clear(&mut self.net, s, stops);
+        let entering = sets::minus(effect.to, self.stopped);
+        net::send(&mut self.net, effect.kind, s, entering);
+        self
     }
 
     // Site s takes a step.
@@ -490,30 +489,36 @@ impl Run {
         Tested { run: self, good }
     }
 
-    // An event happens in any run.
-    pub fn happens(self, event: Event) -> Ran
-        ensures { λ r. ⌜ r ≡ eventOf self event ⌝ }
+    // An event happens; a run that is known to be good need not be tested.
+    fn stepped(self, event: Event, good: bool) -> Ran
+        requires { ⌜ (good ≡ true → self .n ≤ 8) ⌝ }
+        ensures { λ r. ⌜ r ≡ cond good (goesOf self event) (eventOf self event) ⌝ }
     {
+        if good {
+            return self.goes(event);
+        }
         if !self.sound() {
             return self.refused(1);
         }
         self.goes(event)
     }
+
+    // An event happens in any run.
+    pub fn happens(self, event: Event) -> Ran
+        ensures { λ r. ⌜ r ≡ eventOf self event ⌝ }
+    {
+        self.stepped(event, false)
+    }
 }
 
-// An event's answer with what is known of the run.
-fn next_with(ran: Ran, good: bool) -> Next
-    ensures { λ r. ⌜ r ≡ nextWith ran good ⌝ }
+// Was a run of so many sites found good? No run of more than eight is.
+fn known(good: bool, n: u8) -> bool
+    ensures { λ r. ⌜ r ≡ (good && leb n 8) ⌝ }
 {
-    let run = ran.run;
-    let outcome = ran.outcome;
-    let counts = ran.counts;
-    let tested = Tested { run, good };
-    Next {
-        tested,
-        outcome,
-        counts,
+    if 8 < n {
+        return false;
     }
+    good
 }
 
 impl Tested {
@@ -528,15 +533,17 @@ impl Tested {
     pub fn next(self, event: Event) -> Next
         ensures { λ r. ⌜ r ≡ goneOn self event ⌝ }
     {
-        let run = self.run;
-        let n = run.n;
-        let good = self.good;
-        if !good {
-            return next_with(run.happens(event), false);
+        let before = self.run;
+        let good = known(self.good, before.n);
+        let ran = before.stepped(event, good);
+        let run = ran.run;
+        let outcome = ran.outcome;
+        let counts = ran.counts;
+        let tested = Tested { run, good };
+        Next {
+            tested,
+            outcome,
+            counts,
         }
-        if 8 < n {
-            return next_with(run.happens(event), false);
-        }
-        next_with(run.goes(event), true)
     }
 }

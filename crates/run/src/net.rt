@@ -1,11 +1,11 @@
 // The network: at 8 * (kind - 1) + sender - 1 stands the set of receivers for which that message is outstanding.
 
 ghost use mathlib.Core.Path.{_≡_};
-ghost use mathlib.Core.List.{map};
+ghost use mathlib.Core.Bool.{cond};
 ghost use Prim.Native.Nat.{ℕ, _+_, _/_, _%_};
 ghost use lib.ListN.{length, getD, set};
 ghost use Rattle.sets.specs.Sets.{has, union, minus, without, subset};
-ghost use Rattle.run.specs.Run.{place, receivers};
+ghost use Rattle.run.specs.Run.{place, receivers, stoppedIn};
 ghost use Rattle.run.specs.Sound.{every, mayReach};
 
 // Where the receivers of a kind of message from a sender stand; 72 for a kind or a sender that there is not.
@@ -61,11 +61,15 @@ pub(crate) fn send(net: &mut [u8; 72], kind: u8, sender: u8, to: u8)
     }
 }
 
-// The messages to a set of sites are taken out.
-pub(crate) fn clear(net: &mut [u8; 72], gone: u8)
+// If site s stops, the messages to it are taken out.
+pub(crate) fn clear(net: &mut [u8; 72], s: u8, stops: bool)
     requires { ⌜ length (now net) ≡ 72 ⌝ }
-    ensures { λ _. ⌜ now (net .exit) ≡ map (λ (m : ℕ). minus m gone) (now (net .entry)) ⌝ }
+    ensures { λ _. ⌜ now (net .exit) ≡ cond stops (stoppedIn (now (net .entry)) s) (now (net .entry)) ⌝ }
 {
+    if !stops {
+        return;
+    }
+    let gone = sets::weight(s);
     for k in 0..72 {
         net[k] = sets::minus(net[k], gone);
     }

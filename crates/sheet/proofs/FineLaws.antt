@@ -12,11 +12,11 @@ use lib.Dec.{eqb, leb, ltb}
 use lib.ListN.{length, getD, List·getD-eq-default}
 use Rattle.sheet.specs.Index.{someBelow, table}
 use Rattle.sheet.proofs.IndexLaws.{none-at, found-some, and-both, or-neither, table-at, length-table}
-use Rattle.sheet.specs.Record.{byte, fourAt, sitesOf, countOf, countsOf, markRead, movesOf, movesAt, transitionAt, transitionFrom, transitionIn, transitionOf, partsBy, partsOf, statesOf, markIn, moveOf, noTransition, lengthOf, lengthFor}
-use Rattle.sheet.specs.Grounds.{misframed, outside, miscountedAt, miscounted, mismeasuredBy, mismarked, misplaced, unranged, readsNothing, shares, readElsewhere, leaves, undoes, someMove}
+use Rattle.sheet.specs.Record.{byte, fourAt, sitesOf, stateCount, stateCounts, markRead, movesOf, movesAt, transitionAt, transitionFrom, transitionIn, transitionOf, partsBy, partsOf, statesOf, markIn, moveOf, noTransition, sizeOf, lengthFor}
+use Rattle.sheet.specs.Grounds.{misframed, outside, miscountedAt, miscounted, mismeasuredBy, mismarked, misplaced, unranged, readsNothing, shares, readElsewhere, turnsFrom, undoes, someMove}
 use Rattle.sheet.proofs.GroundLaws.{Framed, Ordered, Passes}
 use Rattle.sheet.specs.Faults.{Sited}
-use Rattle.sheet.specs.Paths.{goes, leads, Cycle}
+use Rattle.sheet.specs.Paths.{goes, hasArrow, Cycle}
 use Rattle.sheet.specs.Fine.{FineMove, Fine}
 use Rattle.sheet.specs.declared.Transition.{Transition}
 use Rattle.sheet.specs.declared.Sheet.{Sheet}
@@ -62,7 +62,7 @@ unfolding someMove
 move-not fault s k e h = none-at (λ i. fault s (moveOf s i)) (s .moves) k e h
 
 -- what is marked a stays marked a
-keeps : (a from to : ℕ) → leaves a from to ≡ false → from ≡ a → to ≡ a
+keeps : (a from to : ℕ) → turnsFrom a from to ≡ false → from ≡ a → to ≡ a
 keeps a from to e q = eqb-true to a (not-false _ (sym (simp (eq-eqb _ _ q)) ∙ e))
 
 -- the marks that a transition goes from and to
@@ -93,7 +93,7 @@ module _ (s : Sheet) (o : Ordered s) where
       omega arith
 
   move-kept : (k : ℕ) → k < s .moves
-      → (leaves 1 (markFrom s (moveOf s k)) (markTo s (moveOf s k)) ≡ false) × (leaves 2 (markFrom s (moveOf s k)) (markTo s (moveOf s k)) ≡ false)
+      → (turnsFrom 1 (markFrom s (moveOf s k)) (markTo s (moveOf s k)) ≡ false) × (turnsFrom 2 (markFrom s (moveOf s k)) (markTo s (moveOf s k)) ≡ false)
   unfolding undoes
   move-kept k h = or-neither _ _ (move-not undoes s k (o .kept) h)
 
@@ -114,23 +114,23 @@ word-small l small at = omega (arith, small at, small (at + 1), small (at + 2), 
 mark-past : (l : List ℕ) (k : ℕ) → 32 ≤ k → getD (partsOf l .marks) k 0 ≡ 0
 unfolding partsBy
 mark-past l k h =
-    let f = markRead l (sitesOf l) (countsOf l) in
+    let f = markRead l (sitesOf l) (stateCounts l) in
     List·getD-eq-default (table f 32) 0 {n = k} (omega (arith, length-table f 32))
 
-mark-none : (l : List ℕ) (k : ℕ) → getD (countsOf l) (k / 8) 0 ≤ k % 8 → getD (partsOf l .marks) k 0 ≡ 0
+mark-none : (l : List ℕ) (k : ℕ) → getD (stateCounts l) (k / 8) 0 ≤ k % 8 → getD (partsOf l .marks) k 0 ≡ 0
 unfolding partsBy markRead
 mark-none l k h = go (decLt k 32)
   where
     go : Dec (k < 32) → getD (partsOf l .marks) k 0 ≡ 0
-    go (yes b) = table-at (markRead l (sitesOf l) (countsOf l)) 32 k 0 b ∙ simp (le-ltb _ _ h)
+    go (yes b) = table-at (markRead l (sitesOf l) (stateCounts l)) 32 k 0 b ∙ simp (le-ltb _ _ h)
     go (no b) = mark-past l k (omega arith)
 
-move-none : (l : List ℕ) (k : ℕ) → movesOf l (sitesOf l) (countsOf l) ≤ k → moveOf (partsOf l) k ≡ noTransition
+move-none : (l : List ℕ) (k : ℕ) → movesOf l (sitesOf l) (stateCounts l) ≤ k → moveOf (partsOf l) k ≡ noTransition
 unfolding partsBy transitionIn
 move-none l k h = go (decLt k 64)
   where
     f : ℕ → Transition
-    f = transitionOf l (sitesOf l) (countsOf l)
+    f = transitionOf l (sitesOf l) (stateCounts l)
 
     go : Dec (k < 64) → moveOf (partsOf l) k ≡ noTransition
     go (yes b) = table-at f 64 k noTransition b ∙ simp (le-ltb _ _ h)
@@ -138,19 +138,19 @@ move-none l k h = go (decLt k 64)
 
 -- a record that passes grounds 21 to 24 is as long as its counts say, and has at most 64 transitions, and two to four sites of one to eight states
 module _ (l : List ℕ) (f : Framed l) where
-  measured : (leb (length l) (movesAt (sitesOf l) (countsOf l)) || ltb 64 (movesOf l (sitesOf l) (countsOf l)) ≡ false) × (lengthOf l ≡ lengthFor (sitesOf l) (countsOf l) (movesOf l (sitesOf l) (countsOf l)))
+  measured : (leb (length l) (movesAt (sitesOf l) (stateCounts l)) || ltb 64 (movesOf l (sitesOf l) (stateCounts l)) ≡ false) × (sizeOf l ≡ lengthFor (sitesOf l) (stateCounts l) (movesOf l (sitesOf l) (stateCounts l)))
   unfolding mismeasuredBy
   measured = let a = or-neither _ _ (f .measured) in (a .0, eqb-true _ _ (not-false _ (a .1)))
 
-  pub moves-few : movesOf l (sitesOf l) (countsOf l) ≤ 64
-  moves-few = ltb-false _ _ (or-neither (leb (length l) (movesAt (sitesOf l) (countsOf l))) _ (measured .0) .1)
+  pub moves-few : movesOf l (sitesOf l) (stateCounts l) ≤ 64
+  moves-few = ltb-false _ _ (or-neither (leb (length l) (movesAt (sitesOf l) (stateCounts l))) _ (measured .0) .1)
 
-  pub whole : length l ≡ movesAt (sitesOf l) (countsOf l) + 1 + 12 * movesOf l (sitesOf l) (countsOf l)
+  pub whole : length l ≡ movesAt (sitesOf l) (stateCounts l) + 1 + 12 * movesOf l (sitesOf l) (stateCounts l)
   unfolding misframed
   whole =
-      let a = or-neither (ltb (length l) 2 || not (eqb (length l) (2 + lengthOf l))) (eqb (lengthOf l) 0) (f .framed) in
-      let b = or-neither (ltb (length l) 2) (not (eqb (length l) (2 + lengthOf l))) (a .0) in
-      let long : length l ≡ 2 + lengthOf l = eqb-true (length l) (2 + lengthOf l) (not-false _ (b .1)) in
+      let a = or-neither (ltb (length l) 2 || not (eqb (length l) (2 + sizeOf l))) (eqb (sizeOf l) 0) (f .framed) in
+      let b = or-neither (ltb (length l) 2) (not (eqb (length l) (2 + sizeOf l))) (a .0) in
+      let long : length l ≡ 2 + sizeOf l = eqb-true (length l) (2 + sizeOf l) (not-false _ (b .1)) in
       omega (arith, long, measured .1)
 
   sites-among : Among 2 4 (sitesOf l)
@@ -160,26 +160,26 @@ module _ (l : List ℕ) (f : Framed l) where
   pub sites-few : sitesOf l ≤ 4
   sites-few = sites-among .high
 
-  count-there : (i : ℕ) → i < sitesOf l → Among 1 8 (getD (countsOf l) i 0)
-  unfolding miscounted miscountedAt countsOf countOf
+  count-there : (i : ℕ) → i < sitesOf l → Among 1 8 (getD (stateCounts l) i 0)
+  unfolding miscounted miscountedAt stateCounts stateCount
   count-there i h =
       let four : sitesOf l ≤ 4 = sites-few in
-      let is : getD (countsOf l) i 0 ≡ byte l (4 + i) = table-at (countOf l) 4 i 0 (omega arith) ∙ simp (lt-ltb _ _ h) in
+      let is : getD (stateCounts l) i 0 ≡ byte l (4 + i) = table-at (stateCount l) 4 i 0 (omega arith) ∙ simp (lt-ltb _ _ h) in
       let a = among 1 8 (byte l (4 + i)) (none-at (miscountedAt l) (sitesOf l) i (or-neither (outside 2 4 (sitesOf l)) (someBelow (miscountedAt l) (sitesOf l)) (f .counted) .1) h) in
       record { low = omega (arith, a .low); high = omega (arith, a .high) }
 
-  count-absent : (i : ℕ) → sitesOf l ≤ i → getD (countsOf l) i 0 ≡ 0
-  unfolding countsOf countOf
+  count-absent : (i : ℕ) → sitesOf l ≤ i → getD (stateCounts l) i 0 ≡ 0
+  unfolding stateCounts stateCount
   count-absent i h = go (decLt i 4)
     where
-      go : Dec (i < 4) → getD (table (countOf l) 4) i 0 ≡ 0
-      go (yes b) = table-at (countOf l) 4 i 0 b ∙ simp (le-ltb _ _ h)
-      go (no b) = List·getD-eq-default (table (countOf l) 4) 0 {n = i} (omega (arith, length-table (countOf l) 4))
+      go : Dec (i < 4) → getD (table (stateCount l) 4) i 0 ≡ 0
+      go (yes b) = table-at (stateCount l) 4 i 0 b ∙ simp (le-ltb _ _ h)
+      go (no b) = List·getD-eq-default (table (stateCount l) 4) 0 {n = i} (omega (arith, length-table (stateCount l) 4))
 
-  pub count-few : (i : ℕ) → getD (countsOf l) i 0 ≤ 8
+  pub count-few : (i : ℕ) → getD (stateCounts l) i 0 ≤ 8
   count-few i = go (decLt i (sitesOf l))
     where
-      go : Dec (i < sitesOf l) → getD (countsOf l) i 0 ≤ 8
+      go : Dec (i < sitesOf l) → getD (stateCounts l) i 0 ≤ 8
       go (yes b) = count-there i b .high
       go (no b) = omega (arith, count-absent i (omega arith))
 
@@ -201,16 +201,16 @@ module _ (l : List ℕ) (p : Passes l) where
       go (no b) = omega (arith, mark-past l k (omega arith))
 
   -- transition k of the parts is read from its twelve bytes
-  move-is : (k : ℕ) → k < movesOf l (sitesOf l) (countsOf l)
-      → moveOf (partsOf l) k ≡ transitionFrom l (transitionAt (sitesOf l) (countsOf l) k)
+  move-is : (k : ℕ) → k < movesOf l (sitesOf l) (stateCounts l)
+      → moveOf (partsOf l) k ≡ transitionFrom l (transitionAt (sitesOf l) (stateCounts l) k)
   unfolding partsBy transitionIn
   move-is k h =
       let few = moves-few l (p .frame) in
-      table-at (transitionOf l (sitesOf l) (countsOf l)) 64 k noTransition (omega arith) ∙ simp (lt-ltb _ _ h)
+      table-at (transitionOf l (sitesOf l) (stateCounts l)) 64 k noTransition (omega arith) ∙ simp (lt-ltb _ _ h)
 
   -- a transition of a site joins two of its states, of at most eight
-  pub leads-low : (site q r : ℕ) → leads (partsOf l) site q r ≡ true → (1 ≤ site) × (site ≤ 4) × (q < 8) × (r < 8)
-  unfolding leads goes partsBy
+  pub leads-low : (site q r : ℕ) → hasArrow (partsOf l) site q r ≡ true → (1 ≤ site) × (site ≤ 4) × (q < 8) × (r < 8)
+  unfolding hasArrow goes partsBy
   leads-low site q r e =
       let f = found-some (λ i. goes (moveOf (partsOf l) i) site q r) (partsOf l .moves) e in
       let t = moveOf (partsOf l) (f .place) in
@@ -226,7 +226,7 @@ module _ (l : List ℕ) (p : Passes l) where
 
 -- an accepted record's parts are fine
 module _ (l : List ℕ) (small : (k : ℕ) → byte l k < 256) (p : Passes l) where
-  move-words : (k : ℕ) → k < movesOf l (sitesOf l) (countsOf l) → (moveOf (partsOf l) k .reads < 2 ^ 32) × (moveOf (partsOf l) k .writes < 2 ^ 32)
+  move-words : (k : ℕ) → k < movesOf l (sitesOf l) (stateCounts l) → (moveOf (partsOf l) k .reads < 2 ^ 32) × (moveOf (partsOf l) k .writes < 2 ^ 32)
   unfolding transitionFrom
   move-words k h =
       let e = move-is l p k h in (

@@ -9,7 +9,7 @@ use native.Mathlib.Decide.{ℕ-discrete}
 use native.Mathlib.Omega.{arith}
 use borrow.Author.Tests.{eq-eqb, ne-eqb}
 use Rattle.sheet.specs.Record.{partsOf, noSheet}
-use Rattle.sheet.specs.Grounds.{misframed, misversioned, miscounted, mismeasured, unranged, unprompted, contended, undone, frameGround, partsGround, groundOf, sheetOf}
+use Rattle.sheet.specs.Grounds.{misframed, misversioned, miscounted, mismeasured, unranged, unprompted, contended, undone, frameGround, partsGround, sheetGround, sheetOf}
 use Rattle.sheet.specs.Paths.{cyclic}
 use Rattle.sheet.specs.declared.Sheet.{Sheet}
 
@@ -34,12 +34,12 @@ pub record Passes (l : List ℕ) : Type 0 where
 
 -- a ground with another number than the first one's does not hold
 record Past (b : Bool) (x g : ℕ) : Type 0 where
-  pub fails : b ≡ false
+  pub absent : b ≡ false
   pub rest : x ≡ g
 
 past : (b : Bool) (n x g : ℕ) → n ≢ g → cond b n x ≡ g → Past b x g
 past true n x g d e = absurd (d e)
-past false n x g d e = record { fails = refl; rest = e }
+past false n x g d e = record { absent = refl; rest = e }
 
 module _ (g : ℕ) (other : (n : ℕ) → 21 ≤ n → n ≤ 28 → n ≢ g) where
   -- the number of none from 21 to 24
@@ -50,7 +50,7 @@ module _ (g : ℕ) (other : (n : ℕ) → 21 ≤ n → n ≤ 28 → n ≢ g) whe
       let b = past (misversioned l) 22 _ g (other 22 (omega arith) (omega arith)) (a .rest) in
       let c = past (miscounted l) 23 _ g (other 23 (omega arith) (omega arith)) (b .rest) in
       let d = past (mismeasured l) 24 0 g (other 24 (omega arith) (omega arith)) (c .rest) in
-      (record { framed = a .fails; versioned = b .fails; counted = c .fails; measured = d .fails }, d .rest)
+      (record { framed = a .absent; versioned = b .absent; counted = c .absent; measured = d .absent }, d .rest)
 
   -- the number of none from 25 to 28
   parts-past : (s : Sheet) → partsGround s ≡ g → Ordered s
@@ -60,7 +60,7 @@ module _ (g : ℕ) (other : (n : ℕ) → 21 ≤ n → n ≤ 28 → n ≢ g) whe
       let b = past (unprompted s) 26 _ g (other 26 (omega arith) (omega arith)) (a .rest) in
       let c = past (contended s) 27 _ g (other 27 (omega arith) (omega arith)) (b .rest) in
       let d = past (undone s) 28 _ g (other 28 (omega arith) (omega arith)) (c .rest) in
-      record { ranged = a .fails; prompted = b .fails; apart = c .fails; kept = d .fails }
+      record { ranged = a .absent; prompted = b .absent; apart = c .absent; kept = d .absent }
 
 -- 0 is the number of no ground
 pub framed : (l : List ℕ) → frameGround l ≡ 0 → Framed l
@@ -71,14 +71,14 @@ unfolding frameGround
 frame-none {l} f = simp (f .framed, f .versioned, f .counted, f .measured)
 
 -- where no ground before it holds, a cycle decides
-pub cycle-decides : {l : List ℕ} → Passes l → groundOf l ≡ cond (cyclic (partsOf l)) 29 0
-unfolding groundOf partsGround
+pub cycle-decides : {l : List ℕ} → Passes l → sheetGround l ≡ cond (cyclic (partsOf l)) 29 0
+unfolding sheetGround partsGround
 cycle-decides {l} p =
     simp (frame-none (p .frame), p .parts .ranged, p .parts .prompted, p .parts .apart, p .parts .kept)
 
 -- a first ground that is none from 21 to 28 has none of them before it
-pub passes : (g : ℕ) → ((n : ℕ) → 21 ≤ n → n ≤ 28 → n ≢ g) → (l : List ℕ) → groundOf l ≡ g → Passes l
-unfolding groundOf
+pub passes : (g : ℕ) → ((n : ℕ) → 21 ≤ n → n ≤ 28 → n ≢ g) → (l : List ℕ) → sheetGround l ≡ g → Passes l
+unfolding sheetGround
 passes g other l e = go (ℕ-discrete (frameGround l) 0)
   where
     go : Dec (frameGround l ≡ 0) → Passes l
@@ -90,13 +90,13 @@ passes g other l e = go (ℕ-discrete (frameGround l) 0)
     go (no d) = absurd (d (frame-none (frame-past g other l (sym (simp (ne-eqb _ _ d)) ∙ e) .0)))
 
 -- a ground of the frame is the first of all
-pub frame-first : (l : List ℕ) → frameGround l ≢ 0 → groundOf l ≡ frameGround l
-unfolding groundOf
+pub frame-first : (l : List ℕ) → frameGround l ≢ 0 → sheetGround l ≡ frameGround l
+unfolding sheetGround
 frame-first l d = simp (ne-eqb _ _ d)
 
 -- without one the parts decide
-pub parts-next : (l : List ℕ) → frameGround l ≡ 0 → groundOf l ≡ partsGround (partsOf l)
-unfolding groundOf
+pub parts-next : (l : List ℕ) → frameGround l ≡ 0 → sheetGround l ≡ partsGround (partsOf l)
+unfolding sheetGround
 parts-next l e = simp (eq-eqb _ _ e)
 
 -- a record without a ground of the frame has its parts, another none

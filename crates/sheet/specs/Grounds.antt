@@ -9,7 +9,7 @@ use lib.Dec.{eqb, leb, ltb}
 use lib.Bits.{bitAnd}
 use lib.ListN.{length, getD}
 use Rattle.sheet.specs.Index.{someBelow}
-use Rattle.sheet.specs.Record.{byte, lengthOf, sitesOf, countsOf, movesAt, lengthFor, movesOf, partsOf, noSheet, statesOf, markIn, moveOf}
+use Rattle.sheet.specs.Record.{byte, sizeOf, sitesOf, stateCounts, movesAt, lengthFor, movesOf, partsOf, noSheet, statesOf, markIn, moveOf}
 use Rattle.sheet.specs.Paths.{cyclic}
 use Rattle.sheet.specs.declared.Transition.{Transition}
 use Rattle.sheet.specs.declared.Sheet.{Sheet}
@@ -18,7 +18,7 @@ use Rattle.sheet.specs.declared.Sheet.{Sheet}
 
 -- 21: fewer than 2 bytes, not exactly 2 + L, or L = 0
 unfoldable pub misframed : List ℕ → Bool
-misframed l = ltb (length l) 2 || not (eqb (length l) (2 + lengthOf l)) || eqb (lengthOf l) 0
+misframed l = ltb (length l) 2 || not (eqb (length l) (2 + sizeOf l)) || eqb (sizeOf l) 0
 
 -- 22: version not 1
 unfoldable pub misversioned : List ℕ → Bool
@@ -41,11 +41,11 @@ unfoldable pub mismeasuredBy : List ℕ → ℕ → List ℕ → Bool
 mismeasuredBy l n cs =
     leb (length l) (movesAt n cs)
     || ltb 64 (movesOf l n cs)
-    || not (eqb (lengthOf l) (lengthFor n cs (movesOf l n cs)))
+    || not (eqb (sizeOf l) (lengthFor n cs (movesOf l n cs)))
 
 -- 24, by the record's own counts
 abbrev pub mismeasured : List ℕ → Bool
-mismeasured l = mismeasuredBy l (sitesOf l) (countsOf l)
+mismeasured l = mismeasuredBy l (sitesOf l) (stateCounts l)
 
 -- Grounds about the parts.
 
@@ -90,14 +90,14 @@ abbrev pub contended : Sheet → Bool
 contended s = someMove readElsewhere s
 
 -- from a state marked a to one not marked a
-abbrev pub leaves : ℕ → ℕ → ℕ → Bool
-leaves a from to = eqb from a && not (eqb to a)
+abbrev pub turnsFrom : ℕ → ℕ → ℕ → Bool
+turnsFrom a from to = eqb from a && not (eqb to a)
 
 -- the transition leaves the abort states or the commit states
 unfoldable pub undoes : Sheet → Transition → Bool
 undoes s t =
-    leaves 1 (markIn s (t .site) (t .from)) (markIn s (t .site) (t .to))
-    || leaves 2 (markIn s (t .site) (t .from)) (markIn s (t .site) (t .to))
+    turnsFrom 1 (markIn s (t .site) (t .from)) (markIn s (t .site) (t .to))
+    || turnsFrom 2 (markIn s (t .site) (t .from)) (markIn s (t .site) (t .to))
 
 -- 28: abort to non-abort, or commit to non-commit
 abbrev pub undone : Sheet → Bool
@@ -117,8 +117,8 @@ partsGround s =
     (cond (unprompted s) 26 (cond (contended s) 27 (cond (undone s) 28 (cond (cyclic s) 29 0))))
 
 -- the first ground that holds, 0 for none
-unfoldable pub groundOf : List ℕ → ℕ
-groundOf l = cond (eqb (frameGround l) 0) (partsGround (partsOf l)) (frameGround l)
+unfoldable pub sheetGround : List ℕ → ℕ
+sheetGround l = cond (eqb (frameGround l) 0) (partsGround (partsOf l)) (frameGround l)
 
 -- the sheet of a record: its parts, none where a ground from 21 to 24 stands against it
 unfoldable pub sheetOf : List ℕ → Sheet

@@ -15,8 +15,8 @@ abbrev pub byte : List ℕ → ℕ → ℕ
 byte l k = getD l k 0
 
 -- L, the length of all that follows: two bytes, big-endian
-abbrev pub lengthOf : List ℕ → ℕ
-lengthOf l = byte l 0 * 256 + byte l 1
+abbrev pub sizeOf : List ℕ → ℕ
+sizeOf l = byte l 0 * 256 + byte l 1
 
 -- four bytes, big-endian: a set of messages
 unfoldable pub fourAt : List ℕ → ℕ → ℕ
@@ -27,12 +27,12 @@ abbrev pub sitesOf : List ℕ → ℕ
 sitesOf l = byte l 3
 
 -- the state count of the site at place i, 0 for an absent site
-unfoldable pub countOf : List ℕ → ℕ → ℕ
-countOf l i = cond (ltb i (sitesOf l)) (byte l (4 + i)) 0
+unfoldable pub stateCount : List ℕ → ℕ → ℕ
+stateCount l i = cond (ltb i (sitesOf l)) (byte l (4 + i)) 0
 
 -- the state counts of four sites
-unfoldable pub countsOf : List ℕ → List ℕ
-countsOf l = table (countOf l) 4
+unfoldable pub stateCounts : List ℕ → List ℕ
+stateCounts l = table (stateCount l) 4
 
 -- Where the parts stand, by the number n of sites and the list cs of their state counts.
 
@@ -108,7 +108,7 @@ partsBy l n cs =
 
 -- the parts of a record
 abbrev pub partsOf : List ℕ → Sheet
-partsOf l = partsBy l (sitesOf l) (countsOf l)
+partsOf l = partsBy l (sitesOf l) (stateCounts l)
 
 -- the sheet of a refused answer
 unfoldable pub noSheet : Sheet

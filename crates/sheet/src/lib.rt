@@ -2,7 +2,7 @@
 // The reader knows nothing of what a sheet is judged by. The grounds from 25 on are stated over the parts alone.
 ghost use mathlib.Core.Path.{_≡_};
 ghost use Rattle.sheet.specs.Record.{noTransition, noSheet};
-ghost use Rattle.sheet.specs.Grounds.{groundOf, sheetOf};
+ghost use Rattle.sheet.specs.Grounds.{sheetGround, sheetOf};
 ghost use Rattle.sheet.specs.Fine.{Fine};
 
 mod record; // record.rt: the parts of a record
@@ -33,7 +33,7 @@ pub struct Sheet {
 
 // The first ground against a record, 21 to 29, or 0.
 pub fn ground(bytes: &[u8]) -> u8
-    ensures { λ r. ⌜ r ≡ groundOf (now (bytes .entry)) ⌝ }
+    ensures { λ r. ⌜ r ≡ sheetGround (now (bytes .entry)) ⌝ }
 {
     let frame = frame::frame_ground(bytes);
     if frame != 0 {
@@ -46,7 +46,7 @@ pub fn ground(bytes: &[u8]) -> u8
 // The parts of a record, none where a ground from 21 to 24 stands against it. Where no ground does, they are fine.
 pub fn parts(bytes: &[u8]) -> Sheet
     ensures { λ r. ⌜ r ≡ sheetOf (now (bytes .entry)) ⌝ }
-    ensures { λ r. ⌜ (groundOf (now (bytes .entry)) ≡ 0 → Fine r) ⌝ }
+    ensures { λ r. ⌜ (sheetGround (now (bytes .entry)) ≡ 0 → Fine r) ⌝ }
 {
     if frame::frame_ground(bytes) != 0 {
         return no_sheet();

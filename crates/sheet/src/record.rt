@@ -4,7 +4,7 @@ ghost use mathlib.Core.Bool.{cond};
 ghost use Prim.Native.Nat.{ℕ, _+_, _*_, _^_, _≤_, _<_};
 ghost use lib.ListN.{length, getD};
 ghost use Rattle.sheet.specs.Index.{table};
-ghost use Rattle.sheet.specs.Record.{byte, fourAt, sitesOf, countOf, countsOf, statesBefore, movesAt, markRead, transitionFrom, transitionIn, partsOf};
+ghost use Rattle.sheet.specs.Record.{byte, fourAt, sitesOf, stateCount, stateCounts, statesBefore, movesAt, markRead, transitionFrom, transitionIn, partsOf};
 ghost use Rattle.sheet.specs.Grounds.{frameGround};
 use super::Sheet;
 use super::Transition;
@@ -41,7 +41,7 @@ fn word_at(bytes: &[u8], at: usize) -> u32
 
 // The state count of the site at place i, 0 for an absent site.
 fn count_of(bytes: &[u8], i: usize) -> u8
-    ensures { λ r. ⌜ r ≡ countOf (now (bytes .entry)) i ⌝ }
+    ensures { λ r. ⌜ r ≡ stateCount (now (bytes .entry)) i ⌝ }
 {
     let sites = byte_at(bytes, 3) as usize;
     if i < sites {
@@ -52,7 +52,7 @@ fn count_of(bytes: &[u8], i: usize) -> u8
 
 // The state counts of four sites.
 pub(crate) fn counts_of(bytes: &[u8]) -> [u8; 4]
-    ensures { λ r. ⌜ r ≡ countsOf (now (bytes .entry)) ⌝ }
+    ensures { λ r. ⌜ r ≡ stateCounts (now (bytes .entry)) ⌝ }
 {
     let a = count_of(bytes, 0);
     let b = count_of(bytes, 1);
@@ -86,7 +86,7 @@ fn states_of(counts: [u8; 4]) -> usize
 
 // Where the number of transitions stands.
 pub(crate) fn moves_at(bytes: &[u8]) -> usize
-    ensures { λ r. ⌜ (r ≡ movesAt (sitesOf (now (bytes .entry))) (countsOf (now (bytes .entry)))) × (8 ≤ r) × (r ≤ 1283) ⌝ }
+    ensures { λ r. ⌜ (r ≡ movesAt (sitesOf (now (bytes .entry))) (stateCounts (now (bytes .entry)))) × (8 ≤ r) × (r ≤ 1283) ⌝ }
 {
     let sites = byte_at(bytes, 3) as usize;
     let counts = counts_of(bytes);

@@ -56,7 +56,7 @@ abbrev pub counted : Site → ℕ → Counts
 counted s to = record { written = countOf to; awaited = countOf (awaitedOf s) }
 
 -- "When an answer is an enum, a definition gives this paper's number and values for each of its cases": an outcome's number is its ground,
--- 0 where there is none, and its values are what is reported
+-- 0 where there is none, and its values are what is reported. Taken and passed are told apart by a byte of their own (`outcomeByte` in embed)
 abbrev pub numberOf : Outcome → ℕ
 numberOf Taken = 0
 numberOf Passed = 0

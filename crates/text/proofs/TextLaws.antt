@@ -10,8 +10,8 @@ use lib.Dec.{leb}
 use native.Mathlib.Decide.{decLt}
 use native.Mathlib.Numerals.{add-one}
 use lib.ListN.{length, getD, take, drop, set, length-append, length-drop}
-use lib.Seq.{set-split, drop-cons, drop-drop, take-at, drop-at, length-take-le}
-use Rattle.text.specs.Text.{fits, spliced, reached, Put}
+use lib.Seq.{set-split, take-set-le, drop-cons, drop-drop, take-at, drop-at, length-take-le}
+use Rattle.text.specs.Text.{fits, over, spliced, reached, Put}
 
 -- a part that fits is put
 pub put-fits : (text : List ℕ) (at : ℕ) (part : List ℕ) {last : List ℕ} {r : ℕ} → at + length part ≤ length text
@@ -59,6 +59,18 @@ module _ {text : List ℕ} {at : ℕ} {part last : List ℕ} {r : ℕ} (p : Put 
 -- one byte is put
 pub put-byte : (text : List ℕ) (at b : ℕ) → at < length text → Put text at (b ∷ []) (set text at b) (at + 1)
 put-byte text at b h = record { room = omega arith; to = refl; bytes = set-split text at b h ∙ ap (λ (k : ℕ). take at text ++ (b ∷ drop k text)) (sym (add-one at)) }
+
+-- a part with one byte more is put as that byte, and then the part before it
+pub over-last : (text : List ℕ) (at : ℕ) (part : List ℕ) (b k : ℕ) → k ≡ at + length part → k < length text
+    → over (set text k b) at part ≡ over text at (part ++ (b ∷ []))
+over-last text at part b k e h =
+    let size : length (part ++ (b ∷ [])) ≡ length part + 1 = length-append part (b ∷ []) in
+    let rest : drop (at + length part) (set text k b) ≡ b ∷ drop (at + length (part ++ (b ∷ []))) text =
+    ap (λ (l : List ℕ). drop (at + length part) l) (set-split text k b h)
+    ∙ drop-at (take k text) (b ∷ drop (suc k) text) (at + length part) (length-take-le k text (omega arith) ∙ e)
+    ∙ ap (λ (j : ℕ). b ∷ drop j text) (let j : suc k ≡ at + length (part ++ (b ∷ [])) = omega arith in j) in
+    (λ i. take-set-le at text k b (omega (arith, e)) i ++ (part ++ rest i))
+    ∙ simp append-assoc
 
 -- a part fits when it is no longer than the room left
 pub room-left : (room at size : ℕ) → at ≤ room → leb size (room - at) ≡ leb (at + size) room

@@ -57,25 +57,29 @@ fn digit(n: usize) -> u8
     48 + n as u8
 }
 
-fn digits(text: &mut [u8], at: usize, n: usize) -> usize
-    requires { ⌜ at + length (decimal n) ≤ length (now text) ⌝ }
+// Puts the digits of a number, the last one first, where their number is known.
+fn digits(text: &mut [u8], at: usize, n: usize, size: usize) -> usize
+    requires { ⌜ (size ≡ length (decimal n)) × (at + size ≤ length (now text)) ⌝ }
     ensures { λ r. ⌜ Put (now (text .entry)) at (decimal n) (now (text .exit)) r ⌝ }
 {
-    if n < 10 {
-        text[at] = digit(n);
-        return at + 1;
+    let mut left = n;
+    let mut to = at + size;
+    while 10 <= left {
+        to -= 1;
+        text[to] = digit(left % 10);
+        left /= 10;
     }
-    let to = digits(text, at, n / 10);
-    text[to] = digit(n % 10);
-    to + 1
+    text[at] = digit(left);
+    at + size
 }
 
 // Puts a number from a place on, and says where it ends.
 pub fn put_decimal(text: &mut [u8], at: usize, n: usize) -> usize
     ensures { λ r. ⌜ (r ≡ reached (now (text .entry)) at (decimal n)) × (now (text .exit) ≡ spliced (now (text .entry)) at (decimal n)) ⌝ }
 {
-    if !has_room(text.len(), at, width(n)) {
+    let size = width(n);
+    if !has_room(text.len(), at, size) {
         return at;
     }
-    digits(text, at, n)
+    digits(text, at, n, size)
 }

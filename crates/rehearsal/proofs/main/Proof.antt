@@ -1,8 +1,11 @@
 -- `rehearsal::main` meets its contract.
 -- Assumes nothing.
-use mathlib.Core.Path.{sym}
+use Prim.Native.Nat.{ℕ, _≤_}
+use mathlib.Core.Path.{sym, subst}
+use lib.ListN.{length, length-replicate, take}
 use lib.Seq.{length-take-le}
-use Rattle.transcript.proofs.TranscriptLaws.{text-within}
+use Rattle.transcript.specs.Transcript.{roomFor}
+use Rattle.transcript.proofs.TranscriptLaws.{any-room, whole-within}
 use borrow.Author.Needs.{needs}
 use Rattle.rehearsal.proofs.main.Statement.{statement}
 use Rattle.rehearsal.proofs.main.Tie as tie
@@ -16,26 +19,23 @@ slice-aggregate-read-full c = search needs
 read-full-requires : tie.Need-read-full-requires
 read-full-requires c κs = search needs
 
-any-room-requires : tie.Need-any-room-requires
-any-room-requires c κs = search needs
-
 array-share-prefix-input : tie.Need-array-share-prefix-input
 array-share-prefix-input c = search needs
 
-slice-aggregate-rehearse : tie.Need-slice-aggregate-rehearse
-slice-aggregate-rehearse c = search needs
+slice-aggregate-rehearsed : tie.Need-slice-aggregate-rehearsed
+slice-aggregate-rehearsed c = search needs
 
-slice-aggregate-rehearse-2 : tie.Need-slice-aggregate-rehearse-2
-slice-aggregate-rehearse-2 c = search needs
+slice-aggregate-rehearsed-2 : tie.Need-slice-aggregate-rehearsed-2
+slice-aggregate-rehearsed-2 c = search needs
 
-rehearse-requires : tie.Need-rehearse-requires
-rehearse-requires c κs = search needs
+rehearsed-requires : tie.Need-rehearsed-requires
+rehearsed-requires c κs = subst (λ (k : ℕ). roomFor (length (take (c .before .before .before .read-full .result) (c .before .before .before .read-full .last .1 .0))) ≤ k) (sym (length-replicate {A = ℕ} 189344 0)) (any-room _)
 
 array-share-prefix-text : tie.Need-array-share-prefix-text
-array-share-prefix-text c = text-within _ _ (c .before .rehearse .ensures)
+array-share-prefix-text c = whole-within (c .before .rehearsed .ensures)
 
 slice-aggregate-write-all : tie.Need-slice-aggregate-write-all
-slice-aggregate-write-all c = sym (length-take-le _ _ (text-within _ _ (c .before .before .rehearse .ensures)))
+slice-aggregate-write-all c = sym (length-take-le _ _ (whole-within (c .before .before .rehearsed .ensures)))
 
 write-all-requires : tie.Need-write-all-requires
 write-all-requires c κs = search needs
@@ -59,11 +59,10 @@ main-spec =
     large-buffer-requires
     slice-aggregate-read-full
     read-full-requires
-    any-room-requires
     array-share-prefix-input
-    slice-aggregate-rehearse
-    slice-aggregate-rehearse-2
-    rehearse-requires
+    slice-aggregate-rehearsed
+    slice-aggregate-rehearsed-2
+    rehearsed-requires
     array-share-prefix-text
     slice-aggregate-write-all
     write-all-requires

@@ -2,7 +2,7 @@
 -- Assumes nothing.
 use mathlib.Core.Path.{sym}
 use lib.Seq.{length-take-le}
-use Rattle.report.proofs.ReportLaws.{report-fits}
+use Rattle.report.proofs.ReportLaws.{whole-fits}
 use borrow.Author.Needs.{needs}
 use Rattle.sheets.proofs.main.Statement.{statement}
 use Rattle.sheets.proofs.main.Tie as tie
@@ -16,29 +16,26 @@ slice-aggregate-read-full c = search needs
 read-full-requires : tie.Need-read-full-requires
 read-full-requires c κs = search needs
 
-any-room-requires : tie.Need-any-room-requires
-any-room-requires c κs = search needs
-
 array-share-prefix-input : tie.Need-array-share-prefix-input
 array-share-prefix-input c = search needs
 
-slice-aggregate-report : tie.Need-slice-aggregate-report
-slice-aggregate-report c = search needs
+slice-aggregate-reported : tie.Need-slice-aggregate-reported
+slice-aggregate-reported c = search needs
 
-slice-aggregate-report-2 : tie.Need-slice-aggregate-report-2
-slice-aggregate-report-2 c = search needs
+slice-aggregate-reported-2 : tie.Need-slice-aggregate-reported-2
+slice-aggregate-reported-2 c = search needs
 
-slice-aggregate-report-3 : tie.Need-slice-aggregate-report-3
-slice-aggregate-report-3 c = search needs
+slice-aggregate-reported-3 : tie.Need-slice-aggregate-reported-3
+slice-aggregate-reported-3 c = search needs
 
-report-requires : tie.Need-report-requires
-report-requires c κs = search needs
+reported-requires : tie.Need-reported-requires
+reported-requires c κs = search needs
 
 array-share-prefix-text : tie.Need-array-share-prefix-text
-array-share-prefix-text c = report-fits (c .before .before .report .ensures)
+array-share-prefix-text c = whole-fits (c .before .before .reported .ensures)
 
 slice-aggregate-write-all : tie.Need-slice-aggregate-write-all
-slice-aggregate-write-all c = sym (length-take-le _ _ (report-fits (c .before .before .before .report .ensures)))
+slice-aggregate-write-all c = sym (length-take-le _ _ (whole-fits (c .before .before .before .reported .ensures)))
 
 write-all-requires : tie.Need-write-all-requires
 write-all-requires c κs = search needs
@@ -62,12 +59,11 @@ main-spec =
     large-buffer-requires
     slice-aggregate-read-full
     read-full-requires
-    any-room-requires
     array-share-prefix-input
-    slice-aggregate-report
-    slice-aggregate-report-2
-    slice-aggregate-report-3
-    report-requires
+    slice-aggregate-reported
+    slice-aggregate-reported-2
+    slice-aggregate-reported-3
+    reported-requires
     array-share-prefix-text
     slice-aggregate-write-all
     write-all-requires

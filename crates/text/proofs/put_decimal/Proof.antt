@@ -25,7 +25,7 @@ returns c =
 
 digits-requires : tie.Need-digits-requires
 unfolding fits
-digits-requires c κs = leb-true (c .before .before .before .before .before .args .at + length (decimal (c .before .before .before .before .before .args .n))) (length (c .before .before .before .before .before .args .text .now)) (ap (fits (length (c .before .before .before .before .before .args .text .now)) (c .before .before .before .before .before .args .at)) (sym (c .before .before .before .width .ensures)) ∙ (sym (c .before .before .has-room .ensures) ∙ not-false (c .before .before .has-room .result) (c .before .if1 .left)))
+digits-requires c κs = (c .before .before .before .width .ensures, leb-true _ _ (sym (c .before .before .has-room .ensures) ∙ not-false (c .before .before .has-room .result) (c .before .if1 .left)))
 
 same-length : tie.Need-same-length
 same-length c = search needs

@@ -1,10 +1,12 @@
 -- `run::Run::put` meets its contract.
 -- Assumes nothing.
-use mathlib.Core.Path.{ap, _∙_}
 use Prim.Native.Nat.{ℕ}
-use Rattle.run.specs.declared.Run.{Run}
-use Rattle.run.specs.Run.{remade, sentIn, withNet, withRecord, takenOut, sentBy}
-use Rattle.run.specs.Event.{applied, haltedAt}
+use mathlib.Core.List.{List}
+use mathlib.Core.Path.{ap, _∙_}
+use lib.ListN.{length, length-set}
+use Rattle.sets.specs.Sets.{minus}
+use Rattle.run.specs.Run.{remade, sentIn}
+use Rattle.run.proofs.Applied.{netNow, net-long, put-is}
 use borrow.Author.Needs.{needs}
 use Rattle.run.proofs.Run.put.Statement.{statement}
 use Rattle.run.proofs.Run.put.Tie as tie
@@ -24,18 +26,20 @@ element-set-from-site c = search needs
 take-out-requires : tie.Need-take-out-requires
 take-out-requires c κs = search needs
 
-halted-requires : tie.Need-halted-requires
-halted-requires c κs = search needs
+stopped-with-requires : tie.Need-stopped-with-requires
+stopped-with-requires c κs = search needs
+
+clear-requires : tie.Need-clear-requires
+clear-requires c κs = ap length (c .before .before .take-out .ensures) ∙ simp length-set (search needs)
 
 minus-requires : tie.Need-minus-requires
 minus-requires c κs = search needs
 
 send-requires : tie.Need-send-requires
-send-requires c κs = search needs
+send-requires c κs = ap length (c .before .before .clear .ensures) ∙ net-long (c .before .before .before .before .before .take-out .last .0) (c .before .before .before .before .before .before .before .before .args .s) (c .before .before .before .before .before .before .before .before .args .effect .stops) ∙ ap length (c .before .before .before .before .before .take-out .ensures) ∙ simp length-set (search needs)
 
 returns : tie.Need-returns
-unfolding applied sentBy takenOut
-returns c = ap (withNet (c .before .before .before .halted .result)) (c .send .ensures ∙ ap (sentIn (c .before .before .before .halted .result .net) (c .before .before .before .before .before .before .before .args .effect .kind) (c .before .before .before .before .before .before .before .args .s)) (c .before .before .minus .ensures)) ∙ ap (λ (r : Run). sentBy r (c .before .before .before .before .before .before .before .args .effect .kind) (c .before .before .before .before .before .before .before .args .s) (c .before .before .before .before .before .before .before .args .effect .to)) (c .before .before .before .halted .ensures ∙ ap (λ net. haltedAt (withNet (withRecord (c .before .before .before .before .before .before .before .args .self) (c .before .before .before .before .before .before .before .args .s) (c .before .before .before .before .before .before .before .args .effect .site)) net) (c .before .before .before .before .before .before .before .args .s) (c .before .before .before .before .before .before .before .args .effect .stops)) (c .before .before .before .before .take-out .ensures))
+returns c = simp (c .send .ensures, c .before .before .minus .ensures, c .before .before .before .clear .ensures, c .before .before .before .before .before .stopped-with .ensures, c .before .before .before .before .before .before .take-out .ensures) (put-is _ _ _)
 
 pub put-spec : {M : Type 1} → statement M
 put-spec =
@@ -46,7 +50,8 @@ put-spec =
     mul-site
     element-set-from-site
     take-out-requires
-    halted-requires
+    stopped-with-requires
+    clear-requires
     minus-requires
     send-requires
     returns)

@@ -1,7 +1,7 @@
 -- `count_of` meets its contract, by whether the site is there.
 -- Assumes nothing.
 use borrow.Author.Tests.{lt-ltb, le-ltb}
-use Rattle.sheet.specs.Record.{countOf}
+use Rattle.sheet.specs.Record.{stateCount}
 use borrow.Author.Needs.{needs}
 use Rattle.sheet.proofs.record.count_of.Statement.{statement}
 use Rattle.sheet.proofs.record.count_of.Tie as tie
@@ -19,11 +19,11 @@ byte-at-requires-2 : tie.Need-byte-at-requires-2
 byte-at-requires-2 c κs = search needs
 
 returns : tie.Need-returns
-unfolding countOf
+unfolding stateCount
 returns c = simp (← c .before .before .byte-at .ensures, lt-ltb _ _ (c .before .if1 .taken)) (c .byte-at2 .ensures)
 
 returns-2 : tie.Need-returns-2
-unfolding countOf
+unfolding stateCount
 returns-2 c = simp (← c .before .byte-at .ensures, le-ltb _ _ (c .if1 .left))
 
 pub count-of-spec : {M : Type 1} → statement M

@@ -1,7 +1,7 @@
 -- `counts_of` meets its contract: the four counts in their order.
 -- Assumes nothing.
 use Rattle.sheet.specs.Index.{table}
-use Rattle.sheet.specs.Record.{countsOf}
+use Rattle.sheet.specs.Record.{stateCounts}
 use borrow.Author.Needs.{needs}
 use Rattle.sheet.proofs.record.counts_of.Statement.{statement}
 use Rattle.sheet.proofs.record.counts_of.Tie as tie
@@ -19,7 +19,7 @@ count-of-requires-4 : tie.Need-count-of-requires-4
 count-of-requires-4 c κs = search needs
 
 returns : tie.Need-returns
-unfolding table countsOf
+unfolding table stateCounts
 returns c = simp (c .before .before .before .count-of .ensures, c .before .before .count-of2 .ensures, c .before .count-of3 .ensures, c .count-of4 .ensures)
 
 pub counts-of-spec : {M : Type 1} → statement M

@@ -3,7 +3,7 @@
 use Prim.Native.Nat.{_-_}
 use mathlib.Core.Path.{_≡_, ap, _∙_}
 use native.Mathlib.Omega.{arith}
-use Rattle.sheet.specs.Record.{byte, sitesOf, countsOf, movesOf, firstAt, partsBy}
+use Rattle.sheet.specs.Record.{byte, sitesOf, stateCounts, movesOf, firstAt, partsBy}
 use Rattle.sheet.proofs.GroundLaws.{framed}
 use Rattle.sheet.proofs.FineLaws.{moves-few, whole, count-few}
 use borrow.Author.Needs.{needs}
@@ -45,14 +45,14 @@ transitions-of-requires : tie.Need-transitions-of-requires
 transitions-of-requires c κs =
     let l = c .before .before .before .before .before .before .before .args .bytes .now in
     let f = framed l (c .before .before .before .before .before .before .before .pre) in
-    let moves : c .before .byte-at2 .result ≡ movesOf l (sitesOf l) (countsOf l) = c .before .byte-at2 .ensures ∙ ap (byte l) (c .before .before .before .moves-at .ensures .0) in
+    let moves : c .before .byte-at2 .result ≡ movesOf l (sitesOf l) (stateCounts l) = c .before .byte-at2 .ensures ∙ ap (byte l) (c .before .before .before .moves-at .ensures .0) in
     (omega (arith, c .before .before .before .moves-at .ensures .2), omega (arith, moves, moves-few l f), omega (arith, moves, c .before .before .before .moves-at .ensures .0, whole l f))
 
 returns : tie.Need-returns
 unfolding partsBy
 returns c =
     let l = c .before .before .before .before .before .before .before .before .args .bytes .now in
-    let first : firstAt (sitesOf l) (countsOf l) ≡ c .before .before .before .before .moves-at .result - 4 = omega (arith, c .before .before .before .before .moves-at .ensures .0) in
+    let first : firstAt (sitesOf l) (stateCounts l) ≡ c .before .before .before .before .moves-at .result - 4 = omega (arith, c .before .before .before .before .moves-at .ensures .0) in
     simp (c .transitions-of .ensures, c .before .marks-of .ensures, c .before .before .byte-at2 .ensures, c .before .before .before .word-at .ensures, ← first, c .before .before .before .before .moves-at .ensures .0, c .before .before .before .before .before .counts-of .ensures, c .before .before .before .before .before .before .byte-at .ensures)
 
 pub parts-spec : {M : Type 1} → statement M
