@@ -12,15 +12,12 @@ use Rattle.text.proofs.Putting.{flat-length}
 use Rattle.site.specs.declared.Outcome.{Outcome}
 use Rattle.site.specs.declared.Outcome.the-variants.{Taken, Passed, Refused}
 use Rattle.site.specs.Step.{numberOf}
-use Rattle.run.proofs.Events.{Accepted}
+use Rattle.run.proofs.Events.{Accepted, refused-not}
 use Rattle.judge.specs.declared.Local.{Local}
 use Rattle.embed.specs.Bytes.{leavesBoth, called}
 use Rattle.embed.specs.SheetCalls.{localBytes}
 
 -- ---- an outcome
-
-refused-not : (g : ℕ) → Accepted (Refused g) → ⊥
-refused-not g h = elim h [ inl e ↦ omega arith | inr e ↦ omega arith ]
 
 -- an accepted outcome is returned as 0
 pub accepted-zero : (o : Outcome) → Accepted o → 0 ≡ numberOf o

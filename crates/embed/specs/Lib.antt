@@ -2,5 +2,6 @@
 pub mod Bytes
 pub mod SiteCall
 pub mod RunCalls
+pub mod DayCall
 pub mod RecordCalls
 pub mod SheetCalls

@@ -42,3 +42,4 @@ pub mod Stuck
 pub mod Examples
 pub mod Reached
 pub mod Promised
+pub mod Days

@@ -9,11 +9,13 @@ use mathlib.Core.Path.{_≡_}
 use mathlib.Core.Logic.{_≢_, _⊎_}
 use Rattle.site.specs.declared.State.the-variants.{A, C}
 use Rattle.site.specs.declared.Outcome.the-variants.{Refused}
+use Rattle.run.specs.declared.Run.{Run}
 use Rattle.run.specs.declared.Event.{Event}
 use Rattle.run.specs.Run.{stateOf, hasStopped}
 use Rattle.run.specs.Event.{freshOf, eventOf}
 use Rattle.run.specs.After.{after}
-use Rattle.promise.specs.Words.{IsSite, IsStop, reached, Accepts, Voted}
+use Rattle.day.specs.Day.{dayOf}
+use Rattle.promise.specs.Words.{IsSite, IsStop, reached, Accepts, Voted, ByCalls}
 
 pub record Promise (n : ℕ) : Type 0 where
   -- No site, stopped or not, is in commit while another is in abort.
@@ -35,3 +37,22 @@ pub record Promise (n : ℕ) : Type 0 where
   pub posts : (es : List Event) × ((i : ℕ) → IsSite n i → stateOf (reached n es) i ≡ C) × (after n es .written ≡ 5 * (n - 1))
   -- The exact bound, below the one above: no list of events has more accepted, and one has as many.
   pub exact-bound : ((es : List Event) → after n es .accepted ≤ 2 * n ^ 2 + 3 * n - 1) × ((es : List Event) × (after n es .accepted ≡ 2 * n ^ 2 + 3 * n - 1))
+
+-- The same for the day's journal: of every run that calls have reached, whichever of them were single events and whichever handed over a journal, with
+-- the events of all of them counted together. That it holds is the theorem `days-promised` (proofs/Days.antt).
+pub record DayPromise (n : ℕ) : Type 0 where
+  pub agreement : {r : Run} {k : ℕ} → ByCalls n r k → (i j : ℕ) → IsSite n i → IsSite n j → stateOf r i ≡ C → stateOf r j ≡ A → ⊥
+  -- Whatever journal is handed over.
+  pub commit-stays : {r : Run} {k : ℕ} → ByCalls n r k → (l : List ℕ) (i : ℕ) → stateOf r i ≡ C → stateOf (dayOf r l .run) i ≡ C
+  pub abort-stays : {r : Run} {k : ℕ} → ByCalls n r k → (l : List ℕ) (i : ℕ) → stateOf r i ≡ A → stateOf (dayOf r l .run) i ≡ A
+  pub stopped-stays : {r : Run} {k : ℕ} → ByCalls n r k → (l : List ℕ) (i : ℕ) → hasStopped r i ≡ true → hasStopped (dayOf r l .run) i ≡ true
+  -- The votes are in the events that the calls accepted and refused, one after another.
+  pub all-voted : {r : Run} {k : ℕ} → ByCalls n r k → (i : ℕ) → IsSite n i → stateOf r i ≡ C
+      → (es : List Event) × (r ≡ reached n es) × ((j : ℕ) → IsSite n j → Voted (freshOf n .run) es j)
+  pub only-stops-left : {r : Run} {k : ℕ} → ByCalls n r k → ((e : Event) → Accepts r e → IsStop e)
+      → (i : ℕ) → IsSite n i → hasStopped r i ≡ false → (stateOf r i ≡ C) ⊎ (stateOf r i ≡ A)
+  pub event-bound : {r : Run} {k : ℕ} → ByCalls n r k → k ≤ 5 * (n - 1) + 3 * (n - 1) * (n - 2) / 2 + (n + 1) ^ 2
+  -- No journal ends with ground 6.
+  pub never-conflict : {r : Run} {k : ℕ} → ByCalls n r k → (l : List ℕ) → dayOf r l .day .refusal ≢ 6
+  pub posts : (r : Run) × (k : ℕ) × ByCalls n r k × ((i : ℕ) → IsSite n i → stateOf r i ≡ C)
+  pub exact-bound : ((r : Run) (k : ℕ) → ByCalls n r k → k ≤ 2 * n ^ 2 + 3 * n - 1) × ((r : Run) × ByCalls n r (2 * n ^ 2 + 3 * n - 1))

@@ -1,6 +1,6 @@
 -- The words of demand 3 that `run` does not have already.
 -- Assumes nothing.
-use Prim.Native.Nat.{ℕ, _≤_}
+use Prim.Native.Nat.{ℕ, _+_, _≤_}
 use mathlib.Core.List.{List, _∷_}
 use mathlib.Core.Bool.{true}
 use mathlib.Core.Path.{_≡_}
@@ -11,8 +11,9 @@ use Rattle.site.specs.declared.Step.the-variants.{Begin, Start}
 use Rattle.run.specs.declared.Run.{Run}
 use Rattle.run.specs.declared.Event.{Event}
 use Rattle.run.specs.declared.Event.the-variants.{Act, Stop, Cut}
-use Rattle.run.specs.Event.{eventOf}
+use Rattle.run.specs.Event.{freshOf, eventOf}
 use Rattle.run.specs.After.{acceptedBy, after}
+use Rattle.day.specs.Day.{dayOf}
 
 -- i is one of n sites.
 abbrev pub IsSite : ℕ → ℕ → Type 0
@@ -39,3 +40,9 @@ pub data Voted : Run → List Event → ℕ → Type 0 where
   answers : {r : Run} {s k : ℕ} {es : List Event} → eventOf r (Act s (Start k Yes)) .outcome ≡ Taken → Voted r (Act s (Start k Yes) ∷ es) s
   leaves : {r : Run} {s k x : ℕ} {es : List Event} → eventOf r (Act s (Start k Yes)) .outcome ≡ Taken → has x 1 ≡ true → Voted r (Cut s (Start k Yes) x ∷ es) s
   later : {r : Run} {e : Event} {es : List Event} {j : ℕ} → Voted (eventOf r e .run) es j → Voted r (e ∷ es) j
+
+-- A run that calls have reached from fresh, single events and whole journals (02, Ask 1), with so many events accepted in all of them together.
+pub data ByCalls (n : ℕ) : Run → ℕ → Type 0 where
+  fresh : ByCalls n (freshOf n .run) 0
+  event : {r : Run} {k : ℕ} → ByCalls n r k → (e : Event) → ByCalls n (eventOf r e .run) (k + acceptedBy (eventOf r e .outcome))
+  journal : {r : Run} {k : ℕ} → ByCalls n r k → (l : List ℕ) → ByCalls n (dayOf r l .run) (k + dayOf r l .day .accepted)

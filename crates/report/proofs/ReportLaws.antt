@@ -41,6 +41,7 @@ enough b w₀ w v h (unread l n x e) z = go (cyclic (partsOf b)) (sym (cycle-dec
   where
     read : sheetGround b ≡ 20
     read = sym (ap (λ (y : Verdict). y .refusal) e) ∙ z
+
     go : (c : Bool) → cond {A = ℕ} c 29 0 ≡ 20 → ⊥
     go true p = omega arith
     go false p = omega arith

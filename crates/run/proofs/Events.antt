@@ -1,5 +1,6 @@
 -- What a step's outcome and a run's soundness come to: for the proofs of the functions that ask a site and test a run.
 -- Assumes nothing.
+use Prim.Native.Nat.{ℕ}
 use mathlib.Core.Bool.{false}
 use mathlib.Core.List.{[], _∷_}
 use mathlib.Core.Logic.{inl, inr}
@@ -22,10 +23,13 @@ use Rattle.run.specs.Reply.{replyFrom}
 abbrev pub Accepted : Outcome → Type 0
 Accepted o = OneOf (0 ∷ 1 ∷ []) (tagOf the-type o)
 
+pub refused-not : (g : ℕ) → Accepted (Refused g) → ⊥
+refused-not g h = elim h [ inl e ↦ omega arith | inr e ↦ omega arith ]
+
 pub reply-good : (o : Outcome) (a : Answer) → Accepted o → replyFrom o a ≡ Good a
 reply-good Taken a h = refl
 reply-good Passed a h = refl
-reply-good (Refused g) a h = elim h [ inl e ↦ absurd (omega arith) | inr e ↦ absurd (omega arith) ]
+reply-good (Refused g) a h = absurd (refused-not g h)
 
 -- ground 1
 pub event-unsound : (r : Run) (e : Event) → soundRun r ≡ false → eventOf r e ≡ refusedRun r 1

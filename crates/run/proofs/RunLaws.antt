@@ -32,7 +32,7 @@ use Rattle.run.specs.Event.{actor, stepGround, refusedRun, effectOf, app
 use Rattle.run.specs.After.{acceptedBy}
 use Rattle.run.proofs.RunSteps.{set-either}
 use Rattle.run.proofs.Views.{Shape, isPlace, parts-place}
-use Rattle.run.proofs.Account.{Able, Acting, Accepted, able-of, actor-least, actor-most, Why, why, Account, account, accepted-then, happens}
+use Rattle.run.proofs.Account.{Able, Acting, Accepted, able-of, actor-least, actor-most, Why, why, Account, account, accepted-then, happens, Refuses, fate, then-accepted}
 use Rattle.run.proofs.Account.Accepted.{acts, stops, cuts}
 use Rattle.run.proofs.Account.Why.{fine, misnamed, stopped, missing, own}
 use Rattle.run.proofs.Account.Account.{accepted, denied}
@@ -42,16 +42,13 @@ use Rattle.run.proofs.Applied.{takesOut, writes, stopsAt, Fits, Applied
 
 -- "Refused: run and site come back unchanged, no message, zero counts"
 pub refused-unchanged : (r : Run) (e : Event) (g : ℕ) → eventOf r e .outcome ≡ Refused g → eventOf r e ≡ refusedRun r g
-refused-unchanged r e g = go (account r e)
+refused-unchanged r e g q = ⊎-elim taken refused (fate r e)
   where
-    end : {d : Event} → Accepted r d → happened r d .outcome ≡ Refused g → ⊥
-    end (acts a) q = let z : _≡_ {A = ℕ} 1 0 = sym (a .accepted) ∙ ap acceptedBy q in omega arith
-    end (stops a) q = let z : _≡_ {A = ℕ} 1 0 = ap acceptedBy q in omega arith
-    end (cuts a) q = let z : _≡_ {A = ℕ} 1 0 = ap acceptedBy q in omega arith
+    taken : Accepted r e → eventOf r e ≡ refusedRun r g
+    taken a = let z : _≡_ {A = ℕ} 1 0 = sym (then-accepted a) ∙ ap acceptedBy q in absurd (omega arith)
 
-    go : {x : Ran} → Account r e x → x .outcome ≡ Refused g → x ≡ refusedRun r g
-    go (accepted a) q = absurd (end a q)
-    go (denied {g = h} d) q = let z : h ≡ g = ap numberOf q in ap (refusedRun r) z
+    refused : Refuses r e → eventOf r e ≡ refusedRun r g
+    refused n = n .unchanged ∙ ap (refusedRun r) (ap numberOf (sym (ap (λ (x : Ran). x .outcome) (n .unchanged)) ∙ q))
 
 -- how a stop inside a step ends, by how the step would: "refused as that step would be", else taken
 abbrev pub cutOutcome : Outcome → Outcome
