@@ -261,6 +261,8 @@ uint8_t fj_run_event(uint8_t *run, size_t run_len, uint8_t k, uint8_t s, uint8_t
  *   10 to 14  as fj_record_read has them
  *    1 to 6   as fj_run_event has them: 1 is a run that is not sound, or, after some accepted
  *             events, no longer
+ * So a run that is not sound is refused at the first record that can be read, and with an empty
+ * journal not at all.
  */
 uint8_t fj_run_journal(uint8_t *run, size_t run_len, const uint8_t *journal, size_t journal_len,
                        uint8_t *answer, size_t answer_len);
