@@ -15,8 +15,9 @@
  * WHAT A CALL TAKES AND LEAVES
  * Every call takes any numbers and any bytes, and ends. What it cannot accept it refuses with a
  * number (FJ_.. below); then the site, the run, the record's room and the fields are as they were
- * (fj_run_fresh has one exception). Bytes beyond those that a call is said to write are never
- * touched, accepted or refused.
+ * (fj_run_fresh has one exception; fj_run_journal leaves the run as after the records before the
+ * refused one). Bytes beyond those that a call is said to write are never touched, accepted or
+ * refused.
  *
  * A set of sites is a byte in which site j has weight 2^(j-1): 0x01 is site 1, 0x80 is site 8.
  *
@@ -117,7 +118,14 @@ enum {
 enum { FJ_SITE = 8, FJ_RUN = 138, FJ_RECORD = 9 };
 
 /* The least that answers need: bytes, and for the judge words too. */
-enum { FJ_SITE_ANSWER = 5, FJ_RUN_ANSWER = 3, FJ_FIELDS = 6, FJ_VERDICT = 206, FJ_WORDS = 4096 };
+enum {
+    FJ_SITE_ANSWER = 5,
+    FJ_RUN_ANSWER = 3,
+    FJ_DAY_ANSWER = 25,
+    FJ_FIELDS = 6,
+    FJ_VERDICT = 206,
+    FJ_WORDS = 4096
+};
 
 /* The least room for the texts: of a rehearsal of so many bytes, and of a report. */
 #define FJ_REHEARSAL_ROOM(size) (38 + 26 * (((size) < 65536 ? (size) : 65536) / 9))
@@ -146,6 +154,9 @@ enum {
 
 /* Where the parts of an event's answer stand. */
 enum { FJ_EVENT_OUTCOME = 0, FJ_EVENT_WRITTEN = 1, FJ_EVENT_AWAITED = 2 };
+
+/* Where the parts of a day's answer stand: three numbers of 8 bytes, big-endian, and one byte. */
+enum { FJ_DAY_ACCEPTED = 0, FJ_DAY_WRITTEN = 8, FJ_DAY_PLACE = 16, FJ_DAY_AWAITED = 24 };
 
 /* ---- a site ----------------------------------------------------------------------------- */
 
@@ -226,6 +237,35 @@ uint8_t fj_run_fresh(uint8_t n, uint8_t *run, size_t run_len);
  */
 uint8_t fj_run_event(uint8_t *run, size_t run_len, uint8_t k, uint8_t s, uint8_t o, uint8_t m,
                      uint8_t v, uint8_t x, uint8_t *answer, size_t answer_len);
+
+/*
+ * A day's journal: the events of its records, one after another, where the run's bytes stand.
+ * Returns 0, or the refusal at which it ended. It comes out as fj_record_read and fj_run_event on
+ * one record after another would.
+ *
+ * journal: event records (below), any bytes and as many as there are, with no number of sites before
+ *          them. They are taken from the front until one is refused or no byte is left.
+ *
+ * Written to the first 25 bytes of answer: how many events were accepted; how many messages they
+ * wrote; the place, the byte at which the refused record starts, or journal_len where none is
+ * refused; and how many sites the acting site of the last accepted event still awaits, 0 after a
+ * stop and where none was accepted. The first three are 8 bytes each, big-endian. Written to run:
+ * its bytes after the accepted events. So with a refusal, too, what was accepted counts: whoever
+ * puts the record at that place right can hand over the journal from there on.
+ *
+ * Tested in this order:
+ *   15  answer has fewer than 25 bytes: nothing at all is written
+ *    1  run is not 138 bytes long, or a state is above 4 at any of the eight places: before the
+ *       journal is looked at, also where it is empty. Leaves run and writes 25 zeros
+ * and then, for each record:
+ *   10 to 14  as fj_record_read has them
+ *    1 to 6   as fj_run_event has them: 1 is a run that is not sound, or, after some accepted
+ *             events, no longer
+ * So a run that is not sound is refused at the first record that can be read, and with an empty
+ * journal not at all.
+ */
+uint8_t fj_run_journal(uint8_t *run, size_t run_len, const uint8_t *journal, size_t journal_len,
+                       uint8_t *answer, size_t answer_len);
 
 /* ---- event records ---------------------------------------------------------------------- */
 

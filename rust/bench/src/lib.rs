@@ -1,5 +1,6 @@
 //! Plain Rust with masks, the measure for the proved library's speed: the same bytes in and out.
 
+pub mod day;
 pub mod journal;
 pub mod plain;
 pub mod row;
@@ -14,5 +15,6 @@ mod tests;
 
 /// The rows of the table.
 pub fn rows() -> Vec<row::Row> {
-    [site::rows(), run::rows(), journal::rows(), sheet::rows()].into_iter().flatten().collect()
+    let rows = [site::rows(), run::rows(), journal::rows(), day::rows(), sheet::rows()];
+    rows.into_iter().flatten().collect()
 }

@@ -13,12 +13,13 @@ const USAGE: &str =
        bench --slowest REHEARSAL SHEETS  times the two programs on the worst inputs known";
 
 /// Every comparison of the two; one that differs ends the bench.
-fn comparisons() -> [Tally; 4] {
+fn comparisons() -> [Tally; 5] {
     let (library, plain) = (Side::Library, Side::Plain);
     [
         compare::site::compare(library.site_step(), plain.site_step(), 100_000),
         compare::run::compare(library.runs(), plain.runs(), 100_000),
         compare::journal::compare(library.journaling(), plain.journaling(), 1000),
+        compare::day::compare(library.days(), plain.days(), 100_000),
         compare::sheet::compare(library.judging(), plain.judging(), 2000),
     ]
 }

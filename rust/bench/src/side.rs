@@ -1,6 +1,7 @@
 //! The two sides of a row: the proved library and plain Rust, by the calls of the C interface.
 
 use crate::plain;
+use compare::day::Days;
 use compare::journal::Journaling;
 use compare::run::Runs;
 use compare::sheet::Judging;
@@ -49,6 +50,14 @@ impl Side {
                 rehearse: plain::rehearse,
             },
         }
+    }
+
+    pub fn days(self) -> Days {
+        let journal = match self {
+            Side::Library => calls::run_journal,
+            Side::Plain => plain::run_journal,
+        };
+        Days { journal, read: self.journaling().read, event: self.runs().event }
     }
 
     pub fn judging(self) -> Judging {

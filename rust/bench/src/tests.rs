@@ -33,6 +33,17 @@ fn journals_are_the_same() {
 }
 
 #[test]
+fn days_are_the_same() {
+    use compare::day::{compare, Days};
+    let second = Days {
+        journal: second::day::run_journal,
+        read: second::journal::record_read,
+        event: second::run_bytes::run_event,
+    };
+    assert!(compare(PLAIN.days(), second, 30_000).finish());
+}
+
+#[test]
 fn sheets_are_the_same() {
     use compare::sheet::{compare, Judging};
     let second =

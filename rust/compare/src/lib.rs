@@ -1,5 +1,6 @@
 //! Comparisons of two programs on the same bytes: the inputs and what is looked at.
 
+pub mod day;
 pub mod hostile;
 pub mod inputs;
 pub mod journal;

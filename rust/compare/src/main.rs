@@ -6,6 +6,7 @@ use std::process::ExitCode;
 const USAGE: &str = "usage: compare site [--count N]
        compare run [--count N]
        compare journal [--count N]
+       compare day [--count N]
        compare sheet [--count N]
        compare hostile [--count N]
        compare program PATH rehearsal [--count N]
@@ -46,6 +47,21 @@ fn journal(count: u64) -> Tally {
     compare(library, second, count)
 }
 
+fn day(count: u64) -> Tally {
+    use compare::day::{compare, Days};
+    let library = Days {
+        journal: fjadrimor::calls::run_journal,
+        read: fjadrimor::calls::record_read,
+        event: fjadrimor::calls::run_event,
+    };
+    let second = Days {
+        journal: second::day::run_journal,
+        read: second::journal::record_read,
+        event: second::run_bytes::run_event,
+    };
+    compare(library, second, count)
+}
+
 fn sheet(count: u64) -> Tally {
     use compare::sheet::{compare, Judging};
     let library =
@@ -72,6 +88,7 @@ fn compared(arguments: &[String]) -> Option<Tally> {
         "site" => site(count(rest, 1_000_000)?),
         "run" => run(count(rest, 300_000)?),
         "journal" => journal(count(rest, 3000)?),
+        "day" => day(count(rest, 100_000)?),
         "sheet" => sheet(count(rest, 5000)?),
         "hostile" => compare::hostile::compare(count(rest, 10_000)?),
         "program" => match rest {

@@ -1,6 +1,7 @@
 //! What include/fjadrimor.h tells a C programmer: its numbers are the library's, under the names that
 //! the Rust crate has too, and the stack that it asks for is enough.
 
+use compare::inputs::days::longest;
 use compare::inputs::drafts::product;
 use compare::inputs::journals::Journals;
 use compare::inputs::Random;
@@ -47,6 +48,7 @@ fn rooms_are_as_large_as_said() {
     needs("FJ_SITE_ANSWER", 15, site);
     let event = |room: &mut [u8]| calls::run_event(&mut [0; 138], 6, 1, 0, 0, 0, 0, room).into();
     needs("FJ_RUN_ANSWER", 15, event);
+    needs("FJ_DAY_ANSWER", 15, |room| calls::run_journal(&mut [0; 138], &[], room).into());
     needs("FJ_FIELDS", 15, |room| calls::record_read(&[], 0, room).into());
     needs("FJ_RECORD", 15, |room| calls::record_write(6, 1, 0, 0, 0, 0, room, 0).into());
     needs("FJ_RUN", 15, |room| calls::run_fresh(2, room).into());
@@ -89,6 +91,20 @@ fn parts_stand_where_the_header_says() {
     assert_eq!(told, [0, 2, 2]);
 }
 
+#[test]
+fn parts_of_a_day_stand_where_the_header_says() {
+    let (mut run, mut answer) = ([0; 138], [9; 25]);
+    assert_eq!(calls::run_fresh(4, &mut run), 0);
+    let begin_and_conclude = [0, 7, 1, 1, 1, 0, 0, 1, 0, 0, 7, 1, 5, 1, 0, 0, 0, 0];
+    let returned = calls::run_journal(&mut run, &begin_and_conclude, &mut answer);
+    assert_eq!(usize::from(returned), number("FJ_NOT_ALLOWED"));
+    let told = ["ACCEPTED", "WRITTEN", "PLACE"].map(|part| {
+        let at = number(&format!("FJ_DAY_{part}"));
+        u64::from_be_bytes(answer[at..at + 8].try_into().expect("eight bytes"))
+    });
+    assert_eq!((told, answer[number("FJ_DAY_AWAITED")]), ([1, 3, 9], 3));
+}
+
 /// Runs in a thread that has no more stack than the header asks for.
 fn with_little_stack(work: impl FnOnce() + Send + 'static) {
     assert!(HEADER.contains("less than 64 KB of stack"));
@@ -99,6 +115,7 @@ fn with_little_stack(work: impl FnOnce() + Send + 'static) {
 #[test]
 fn the_stack_is_enough() {
     let journal = Journals::default().valid(&mut Random::new(61), 8, 7281);
+    let day = longest(8);
     let sheet = product(&[8; 4], false).bytes();
     let (mut words, mut text) = (vec![0; 4096], vec![0; 200_000]);
     let (mut run, mut site) = ([0; 138], [8, 1, 0, 1, 0, 0, 0, 0]);
@@ -108,6 +125,8 @@ fn the_stack_is_enough() {
         for k in [1, 17] {
             calls::run_event(&mut run, k, 1, 0, 0, 1, 0, &mut [0; 3]);
         }
+        calls::run_fresh(8, &mut run);
+        calls::run_journal(&mut run, &day, &mut [0; 25]);
         calls::record_read(&journal, 1, &mut [0; 6]);
         calls::record_write(6, 1, 0, 0, 0, 0, &mut [0; 9], 0);
         calls::rehearse(&journal, &mut text);

@@ -1,8 +1,9 @@
-//! Document 01, row by row, through the library and through the second program. What is expected is
-//! written down from 01 by hand, so that a reader can hold each row against its sentence; neither
-//! program has a part in it.
+//! Document 01, and what 02 adds to it, row by row, through the library and through the second
+//! program. What is expected is written down from them by hand, so that a reader can hold each row
+//! against its sentence; neither program has a part in it.
 
 mod rows {
+    mod days;
     mod deliveries;
     mod records;
     mod rehearsals;

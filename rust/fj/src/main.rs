@@ -5,6 +5,8 @@ mod arguments;
 mod beside;
 mod chart;
 mod commands;
+#[cfg(test)]
+mod day_tests;
 mod grounds;
 mod input;
 mod journal;

@@ -37,6 +37,15 @@ pub mod c {
             answer_len: usize,
         ) -> u8;
 
+        pub fn fj_run_journal(
+            run: *mut u8,
+            run_len: usize,
+            journal: *const u8,
+            journal_len: usize,
+            answer: *mut u8,
+            answer_len: usize,
+        ) -> u8;
+
         pub fn fj_record_read(
             journal: *const u8,
             journal_len: usize,
@@ -122,6 +131,14 @@ pub fn run_event(
     let (room, length) = (answer.as_mut_ptr(), answer.len());
     // SAFETY: both slices are live, distinct, and as long as said.
     unsafe { c::fj_run_event(run.as_mut_ptr(), run.len(), k, s, o, m, v, x, room, length) }
+}
+
+/// The events of a journal's records, one after another until one is refused.
+pub fn run_journal(run: &mut [u8], journal: &[u8], answer: &mut [u8]) -> u8 {
+    let (lent, count) = (run.as_mut_ptr(), run.len());
+    let (room, length) = (answer.as_mut_ptr(), answer.len());
+    // SAFETY: all slices are live, distinct, and as long as said.
+    unsafe { c::fj_run_journal(lent, count, journal.as_ptr(), journal.len(), room, length) }
 }
 
 /// The fields of the record at a place of a journal.

@@ -36,6 +36,11 @@ impl Journal {
         &self.0
     }
 
+    /// Its records, without the number of sites: what [`Run::journal`](crate::Run::journal) takes.
+    pub fn records(&self) -> &[u8] {
+        self.0.get(1..).unwrap_or_default()
+    }
+
     /// Adds the record of an event. Refused with 14 where a record cannot hold it.
     pub fn push(&mut self, event: Event) -> Result<(), Refusal> {
         let [k, s, o, m, v, x] = event.fields();

@@ -34,12 +34,14 @@
 //!
 //! - [`Run`]: all sites together with the messages between them, for rehearsals and tests. An
 //!   [`Event`] is a step of one site, a stop, or a stop inside a step.
-//! - [`Journal`]: events as bytes, and their rehearsal as text.
+//! - [`Journal`]: events as bytes, and their rehearsal as text. [`Run::journal`] takes a whole day's
+//!   records in one call, and [`Day`] is its answer.
 //! - [`Sheet`]: a commit protocol written down, and the [`Verdict`] whether it is nonblocking.
 //! - [`Refusal`]: why a call was refused, with the number of document 01 and a sentence.
 //! - [`calls`]: the C interface itself, on bytes.
 
 pub mod calls;
+mod day;
 mod event;
 mod journal;
 mod message;
@@ -49,6 +51,7 @@ mod sheet;
 mod site;
 mod sites;
 
+pub use day::Day;
 pub use event::{Event, Step};
 pub use journal::{Events, Journal};
 pub use message::{Kind, Message, Vote};

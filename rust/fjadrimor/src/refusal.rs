@@ -8,7 +8,8 @@ macro_rules! grounds {
     ($($name:ident = $number:literal, $sentence:literal;)*) => {
         /// A ground for refusal, with the number that document 01 gives it.
         ///
-        /// A refused call leaves the site, the run or the journal as it was.
+        /// A refused call leaves the site, the run or the journal as it was. Of the records of a
+        /// [`Run::journal`](crate::Run::journal), those before the refused one count.
         #[derive(Clone, Copy, Debug, PartialEq, Eq, PartialOrd, Ord, Hash)]
         #[repr(u8)]
         pub enum Refusal {

@@ -1,5 +1,6 @@
 //! A run: all sites, the messages between them, and who has stopped.
 
+use crate::day::{Day, ANSWER};
 use crate::{calls, Event, Kind, Message, Outcome, Refusal, Site, Sites};
 
 /// The length of a run in bytes.
@@ -95,5 +96,32 @@ impl Run {
         Refusal::heed(calls::run_event(&mut self.0, k, s, o, m, v, x, &mut answer))?;
         let [outcome, written, awaited] = answer;
         Ok(Ran { outcome: Outcome::of_byte(outcome), written, awaited })
+    }
+    /// The events of a day's journal happen: its records, from the front, until one is refused by
+    /// the reader (10 to 14) or by the run (1 to 6), or no byte is left. It comes out as
+    /// [`Run::happens`] on one event after another would. The run is as after the accepted ones.
+    ///
+    /// `records` may be any bytes, as many as there are. It has no number of sites before the first
+    /// record: of a [`Journal`](crate::Journal) these are the
+    /// [`records`](crate::Journal::records).
+    ///
+    /// ```
+    /// use fjadrimor::{Event, Journal, Refusal, Run, Step, Vote};
+    ///
+    /// let mut journal = Journal::new(2);
+    /// journal.push(Event::Act { site: 1, step: Step::Begin(Vote::Yes) })?;
+    /// journal.push(Event::Act { site: 1, step: Step::Conclude })?;
+    ///
+    /// let mut run = Run::fresh(2)?;
+    /// let day = run.journal(journal.records());
+    /// assert_eq!((day.accepted, day.written, day.awaited), (1, 1, 1));
+    /// // No vote is heard yet. The record that is refused is the second: it starts at byte 9.
+    /// assert_eq!((day.refusal, day.place), (Some(Refusal::NotAllowed), 9));
+    /// # Ok::<(), fjadrimor::Refusal>(())
+    /// ```
+    pub fn journal(&mut self, records: &[u8]) -> Day {
+        let mut answer = [0; ANSWER];
+        let returned = calls::run_journal(&mut self.0, records, &mut answer);
+        Day::of_answer(&answer, Refusal::heed(returned).err())
     }
 }

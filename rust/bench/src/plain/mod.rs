@@ -1,11 +1,13 @@
 //! A plain, fast implementation of the C interface.
 
+pub mod day;
 pub mod journal;
 pub mod judge;
 pub mod run;
 pub mod sheet;
 pub mod site;
 
+pub use day::run_journal;
 pub use journal::{record_read, record_write, rehearse, rehearse_testing};
 pub use judge::{sheet_judge, sheet_report};
 pub use run::{run_event, run_fresh};

@@ -107,6 +107,16 @@ impl Run {
         })
     }
 
+    /// Whether each running leader knows all lower sites stopped. A sound run in which that is so
+    /// stays sound, and it stays so.
+    pub fn ordered(&self) -> bool {
+        self.sites[..self.n as usize].iter().all(|site| {
+            !site.leads()
+                || self.stopped & bit(site.number) != 0
+                || (bit(site.number) - 1) & !site.known == 0
+        })
+    }
+
     /// Whether the message is outstanding that this step takes out of the network.
     fn outstanding(&self, kind: u8, from: u8, to: u8) -> bool {
         self.network[kind as usize - 1][from as usize - 1] & bit(to) != 0

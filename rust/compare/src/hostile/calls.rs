@@ -8,6 +8,7 @@ pub enum Entry {
     SiteStep,
     RunFresh,
     RunEvent,
+    RunJournal,
     RecordRead,
     RecordWrite,
     Rehearse,
@@ -24,6 +25,8 @@ pub struct Call {
     pub at: usize,
     /// The site, run, journal, input or sheet.
     pub given: Vec<u8>,
+    /// The journal that is handed over with a run.
+    pub journal: Vec<u8>,
     /// The room for an answer, a fresh run, a record or a text.
     pub room: Vec<u8>,
     pub words: Vec<u64>,
@@ -34,15 +37,17 @@ pub struct Call {
 pub struct After {
     pub returned: usize,
     pub given: Vec<u8>,
+    pub journal: Vec<u8>,
     pub room: Vec<u8>,
     pub words: Vec<u64>,
 }
 
 impl Entry {
-    pub const ALL: [Entry; 8] = [
+    pub const ALL: [Entry; 9] = [
         Entry::SiteStep,
         Entry::RunFresh,
         Entry::RunEvent,
+        Entry::RunJournal,
         Entry::RecordRead,
         Entry::RecordWrite,
         Entry::Rehearse,
@@ -56,6 +61,7 @@ impl Entry {
             Entry::SiteStep => &[1, 2, 5, 6, 13, 14, 15],
             Entry::RunFresh => &[1, 15],
             Entry::RunEvent => &[1, 2, 3, 4, 5, 6, 13, 14, 15],
+            Entry::RunJournal => &[1, 2, 3, 4, 5, 6, 10, 11, 12, 13, 14, 15],
             Entry::RecordRead => &[10, 11, 12, 13, 14, 15],
             Entry::RecordWrite => &[13, 14, 15],
             Entry::SheetJudge => &[15, 20, 21, 22, 23, 24, 25, 26, 27, 28, 29, 30, 31],
@@ -68,7 +74,9 @@ impl Call {
     /// Makes the call with its memory lent in one of the ways.
     pub fn made(&self, way: Way) -> After {
         let (mut given, mut room) = (Lent::new(&self.given, way), Lent::new(&self.room, way));
+        let mut journal = Lent::new(&self.journal, way);
         let mut words = Lent::new(&self.words, way);
+        let (j, j_len) = (journal.address(), journal.length());
         let (a, a_len) = (given.address(), given.length());
         let (b, b_len) = (room.address(), room.length());
         let (w, w_len) = (words.address(), words.length());
@@ -79,6 +87,7 @@ impl Call {
                 Entry::SiteStep => c::fj_site_step(a, a_len, k, o, m, v, b, b_len).into(),
                 Entry::RunFresh => c::fj_run_fresh(k, b, b_len).into(),
                 Entry::RunEvent => c::fj_run_event(a, a_len, k, s, o, m, v, x, b, b_len).into(),
+                Entry::RunJournal => c::fj_run_journal(a, a_len, j, j_len, b, b_len).into(),
                 Entry::RecordRead => c::fj_record_read(a, a_len, self.at, b, b_len).into(),
                 Entry::RecordWrite => {
                     c::fj_record_write(k, s, o, m, v, x, b, b_len, self.at).into()
@@ -88,7 +97,13 @@ impl Call {
                 Entry::SheetReport => c::fj_sheet_report(a, a_len, w, w_len, b, b_len),
             }
         };
-        After { returned, given: given.left(), room: room.left(), words: words.left() }
+        After {
+            returned,
+            given: given.left(),
+            journal: journal.left(),
+            room: room.left(),
+            words: words.left(),
+        }
     }
 
     /// What the call may leave, if it returned what it did: all as before, but for the bytes that
@@ -118,6 +133,7 @@ impl Call {
                 room[..3].copy_from_slice(&after.room[..3]);
             }
             (Entry::RunEvent, _) => room[..3].copy_from_slice(&[2, 0, 0]),
+            (Entry::RunJournal, _) => (given, room) = self.day(after),
             (Entry::RecordRead, 0) => room[..6].copy_from_slice(&after.room[..6]),
             (Entry::RecordWrite, 0) => {
                 let record = self.at..self.at + 9;
@@ -133,6 +149,37 @@ impl Call {
                 words[..if ground < 30 { 0 } else { 4096 }].fill(0);
             }
         }
-        After { returned, given, room, words }
+        After { returned, given, journal: self.journal.clone(), room, words }
     }
+
+    /// The run and the answer that a day's journal may leave. What it counted is taken as it is, but
+    /// for what follows from the rest: where none is refused, all records are accepted, of nine
+    /// bytes each; the place of a refused one is after the accepted ones; and a run that accepted
+    /// nothing is as before.
+    fn day(&self, after: &After) -> (Vec<u8>, Vec<u8>) {
+        let (mut given, mut room) = (self.given.clone(), self.room.clone());
+        let answer = &mut room[..25];
+        if !is_run(&given) {
+            answer.fill(0);
+            return (given, room);
+        }
+        answer.copy_from_slice(&after.room[..25]);
+        let length = self.journal.len() as u64;
+        let counted = u64::from_be_bytes(answer[..8].try_into().expect("eight bytes"));
+        let (accepted, place) = match after.returned {
+            0 => (length / 9, length),
+            _ => (counted, counted.wrapping_mul(9)),
+        };
+        answer[..8].copy_from_slice(&accepted.to_be_bytes());
+        answer[16..24].copy_from_slice(&place.to_be_bytes());
+        if accepted > 0 {
+            given.clone_from(&after.given);
+        }
+        (given, room)
+    }
+}
+
+/// Whether these bytes are a run: 138, with a state at each of its eight places.
+fn is_run(bytes: &[u8]) -> bool {
+    bytes.len() == 138 && bytes[2..66].chunks(8).all(|record| record[2] <= 4)
 }

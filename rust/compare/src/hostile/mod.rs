@@ -6,6 +6,7 @@
 mod calls;
 mod lent;
 
+use crate::inputs::days::{Handover, Handovers};
 use crate::inputs::journals::{any_fields, Journals};
 use crate::inputs::runs::{any_run, Events, RUN};
 use crate::inputs::sheets::any_case;
@@ -21,6 +22,7 @@ struct Hostile {
     steps: Vec<[u8; 4]>,
     events: Events,
     journals: Journals,
+    handovers: Handovers,
 }
 
 impl Hostile {
@@ -80,6 +82,12 @@ impl Hostile {
         self.call(Entry::RunEvent, event, run, 3)
     }
 
+    fn run_journal(&mut self) -> Call {
+        let Handover { run, journal } = self.handovers.any(&mut self.random);
+        let journal = self.spoilt(journal);
+        Call { journal, ..self.call(Entry::RunJournal, [0; 6], run, 25) }
+    }
+
     fn record_read(&mut self) -> Call {
         let mut journal = Vec::new();
         for _ in 0..self.random.below(30) {
@@ -118,7 +126,7 @@ impl Hostile {
                 fields.map(|field| if self.random.once_in(4) { self.random.byte() } else { field });
         }
         let (given, room) = (self.spoilt(given), self.room(needed));
-        Call { entry, fields, at: 0, given, room, words: Vec::new() }
+        Call { entry, fields, at: 0, given, journal: Vec::new(), room, words: Vec::new() }
     }
 
     fn any(&mut self, entry: Entry) -> Call {
@@ -126,6 +134,7 @@ impl Hostile {
             Entry::SiteStep => self.site_step(),
             Entry::RunFresh => self.run_fresh(),
             Entry::RunEvent => self.run_event(),
+            Entry::RunJournal => self.run_journal(),
             Entry::RecordRead => self.record_read(),
             Entry::RecordWrite => self.record_write(),
             Entry::Rehearse => self.rehearse(),
@@ -142,6 +151,7 @@ pub fn compare(count: u64) -> Tally {
         steps: steps(9),
         events: Events::new(4, 8),
         journals: Journals::default(),
+        handovers: Handovers::new(fjadrimor::calls::run_event),
     };
     let mut tally = Tally::default();
     for entry in Entry::ALL {

@@ -51,6 +51,22 @@ pub fn sound_run(random: &mut Random, n: u8) -> Vec<u8> {
     run
 }
 
+/// A sound run that may lose that: a site above 1 leads though a lower one runs, and all others have
+/// acknowledged. When it concludes, it writes to that lower one, and no such message goes that way.
+pub fn unordered_run(random: &mut Random, n: u8) -> Vec<u8> {
+    let leader = random.within(2, n);
+    let both = weight(leader) | weight(random.within(1, leader - 1));
+    let mut run = sound_run(random, n);
+    while run[1] & both != 0 {
+        run = sound_run(random, n);
+    }
+    let record = &mut run[2 + 8 * (leader as usize - 1)..][..8];
+    record[2] = random.within(1, 2);
+    record[3] = leader;
+    record[7] = sites(n) & !weight(leader);
+    run
+}
+
 /// A sound run three times in four; else one byte or bit is another, or all bytes are.
 pub fn any_run(random: &mut Random) -> Vec<u8> {
     let n = random.within(2, 8);

@@ -1,5 +1,6 @@
 //! The two programs that each row goes through, and the words in which rows are written.
 
+use compare::day::RunJournal;
 use compare::inputs::drafts::Move;
 use compare::inputs::pattern;
 use compare::journal::Journaling;
@@ -13,6 +14,8 @@ pub const RUNS: [Runs; 2] = [
     Runs { fresh: fjadrimor::calls::run_fresh, event: fjadrimor::calls::run_event },
     Runs { fresh: second::run_bytes::run_fresh, event: second::run_bytes::run_event },
 ];
+
+pub const DAYS: [RunJournal; 2] = [fjadrimor::calls::run_journal, second::day::run_journal];
 
 pub const JOURNALS: [Journaling; 2] = [
     Journaling {
@@ -193,7 +196,7 @@ pub fn event(program: Runs, run: &Run, fields: [u8; 6]) -> String {
 }
 
 /// What differs between two runs, in words.
-fn changes(before: &[u8], after: &[u8]) -> Vec<String> {
+pub fn changes(before: &[u8], after: &[u8]) -> Vec<String> {
     assert_eq!((before[0], before.len()), (after[0], after.len()), "n stays");
     let mut words = Vec::new();
     if after[1] != before[1] {

@@ -1,0 +1,56 @@
+//! The scenarios as journals of a day: handed over in one call, each ends at the first record that its
+//! rehearsal refuses or cannot read.
+
+use crate::beside::Rehearsal;
+use crate::notation::{assemble, start};
+use fjadrimor::{Day, Refusal, Run};
+
+const SCENARIOS: &str = concat!(env!("CARGO_MANIFEST_DIR"), "/../../scenarios");
+
+/// The bytes of a journal in notation, by the file's path.
+fn assembled(path: &std::path::Path) -> Vec<u8> {
+    assemble(&std::fs::read_to_string(path).expect("text")).expect("a journal")
+}
+
+/// The first record that is refused or bad, by its place from 1 on, with the ground.
+fn first_refused(rehearsal: &Rehearsal) -> Option<(usize, u8)> {
+    let grounds = rehearsal.refused().chain(rehearsal.bad());
+    grounds.map(|(place, ground, _)| (place, ground)).min()
+}
+
+#[test]
+fn a_day_ends_at_the_first_record_that_is_refused() {
+    let files = std::fs::read_dir(SCENARIOS).expect("the scenarios are there");
+    let files = files.map(|file| file.expect("it can be listed").path());
+    let mut whole = 0;
+    for file in files.filter(|file| file.extension().is_some_and(|end| end == "journal")) {
+        let journal = assembled(&file);
+        let Ok(mut run) = Run::fresh(journal[0]) else { continue };
+        let day = run.journal(&journal[1..]);
+        let rehearsal = Rehearsal::new(&journal, false).expect("a rehearsal");
+        let refused = first_refused(&rehearsal);
+        let place = refused.map_or(journal.len(), |(place, _)| start(place)) - 1;
+        let ground = refused.map(|(_, ground)| ground);
+        assert_eq!((day.place, day.refusal.map(Refusal::number)), (place, ground), "{file:?}");
+        if refused.is_none() {
+            assert_eq!(rehearsal.run, Some(run), "{file:?}");
+            whole += 1;
+        }
+    }
+    assert!(whole > 10, "{whole} scenarios have no refused record");
+}
+
+/// The answer that the scenario tells of, and how operations go on.
+#[test]
+fn one_record_too_early() {
+    let journal = assembled(&std::path::Path::new(SCENARIOS).join("one-record-early.journal"));
+    let mut records: Vec<&[u8]> = journal[1..].chunks(9).collect();
+    let mut run = Run::fresh(journal[0]).expect("a run");
+    let day = run.journal(&records.concat());
+    let refusal = Some(Refusal::NotAllowed);
+    assert_eq!(day, Day { accepted: 4, written: 4, place: 36, awaited: 1, refusal });
+    records.swap(4, 5);
+    let rest = run.journal(&records.concat()[day.place..]);
+    assert_eq!((rest.accepted, rest.refusal), (9, None));
+    assert!((1..=3).all(|site| run.site(site).is_some_and(|site| site.state().letter() == 'c')));
+}

@@ -1,0 +1,36 @@
+//! What became of a day's journal.
+
+use crate::Refusal;
+
+/// The bytes of the answer: three numbers, then the awaited one.
+pub(crate) const ANSWER: usize = 25;
+/// The bytes of each of the three: accepted, written, place.
+const NUMBER: usize = 8;
+
+/// The answer to a day's journal, which [`Run::journal`](crate::Run::journal) takes.
+#[derive(Clone, Copy, Debug, PartialEq, Eq, Hash)]
+#[must_use = "a record may have been refused"]
+pub struct Day {
+    /// The number of events accepted. The run is as after these.
+    pub accepted: usize,
+    /// The number of messages that they wrote.
+    pub written: usize,
+    /// The byte at which the refused record starts; the journal's length where none is refused.
+    pub place: usize,
+    /// The number of sites still awaited after the last accepted event; 0 where none was accepted.
+    pub awaited: u8,
+    /// Why the record at `place` was refused, if one was.
+    pub refusal: Option<Refusal>,
+}
+
+impl Day {
+    /// The library's answer, with what it returned.
+    pub(crate) fn of_answer(answer: &[u8; ANSWER], refusal: Option<Refusal>) -> Day {
+        let number = |place: usize| {
+            let bytes = &answer[NUMBER * place..NUMBER * (place + 1)];
+            usize::from_be_bytes(bytes.try_into().expect("eight bytes of a 64-bit number"))
+        };
+        let [accepted, written, place] = [0, 1, 2].map(number);
+        Day { accepted, written, place, awaited: answer[ANSWER - 1], refusal }
+    }
+}
