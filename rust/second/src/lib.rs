@@ -1,4 +1,4 @@
-//! The second program: document 01's rules once more, by sets and tuples.
+//! The second program: the rules of documents 01 and 02 once more, by sets and tuples.
 //!
 //! It is there to be compared with the proved library and shares nothing with it: sets are sorted
 //! sets, messages are tuples, and masks occur only in `bytes`, where bytes come in or go out.
