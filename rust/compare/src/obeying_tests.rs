@@ -62,7 +62,6 @@ fn told_as_number(bytes: &[u8], words: &mut [u64], text: &mut [u8]) -> usize {
 /// The answer is wrong where two sites obey, and the report where fewer than three do.
 #[test]
 fn wrong_tolerances_are_caught() {
-    assert_eq!(compare(SECOND, SECOND, 0).differ, 0);
     assert!(compare(Judging { judge: less_one, ..SECOND }, SECOND, 0).differ > 0);
     assert!(compare(Judging { report: told_as_number, ..SECOND }, SECOND, 0).differ > 0);
 }
