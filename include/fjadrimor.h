@@ -129,7 +129,7 @@ enum {
 
 /* The least room for the texts: of a rehearsal of so many bytes, and of a report. */
 #define FJ_REHEARSAL_ROOM(size) (38 + 26 * (((size) < 65536 ? (size) : 65536) / 9))
-enum { FJ_REPORT_ROOM = 3722 };
+enum { FJ_REPORT_ROOM = 3731 };
 
 /* Where a site's parts stand in its bytes. */
 enum {
@@ -333,7 +333,8 @@ size_t fj_rehearse(const uint8_t *input, size_t input_len, uint8_t *text, size_t
  *     1 to 2   the number of reachable states, big-endian
  *     3        1 where the sheet is nonblocking
  *     4 to 6   where it is blocking: the lowest site, its state, the condition broken
- *     7        tolerance
+ *     7        tolerance: from three sites up that obey (none of whose states is blocked) their
+ *              number less one; 0 where fewer do, and none is stated
  *     8 to 13  zeros
  *    14 to 205 six bytes for each local state, state j of site i at 14 + 6 * (8 * (i - 1) + j);
  *              zeros where the sheet has no such state:

@@ -1,4 +1,4 @@
--- No text is longer than 3,722 bytes.
+-- No text is longer than 3,731 bytes.
 -- Assumes nothing.
 use Prim.Native.Nat.{ℕ, zero, suc, _+_, _-_, _*_, _/_, _%_, _≤_, _<_}
 use mathlib.Core.Bool.{Bool, true, false, cond, not}
@@ -8,7 +8,7 @@ use mathlib.Core.Logic.{_≢_}
 use native.Mathlib.Omega.{arith}
 use native.Mathlib.Decide.{decLt}
 use borrow.Author.Tests.{ne-eqb, lt-ltb, le-ltb}
-use lib.Dec.{eqb, ltb}
+use lib.Dec.{eqb, leb, ltb, lit≤}
 use lib.ListN.{length, getD, length-append}
 use Rattle.text.specs.Said.{said}
 use Rattle.text.specs.Decimal.{decimal}
@@ -18,7 +18,7 @@ use Rattle.sets.proofs.SetLaws.{one-if}
 use Rattle.sheet.specs.Index.{sumBelow}
 use Rattle.sheet.specs.Fine.{Fine}
 use Rattle.sheet.specs.declared.Sheet.{Sheet}
-use Rattle.judge.specs.Facts.{stands, markOf, noLocal, Ruling, Obeying, Says, Breaks}
+use Rattle.judge.specs.Facts.{toleranceOf, stands, markOf, noLocal, Ruling, Obeying, Says, Breaks}
 use Rattle.judge.specs.Facts.Ruling.{nonblocking, blocking}
 use Rattle.judge.specs.Facts.Breaks.{breaks-1, breaks-2}
 use Rattle.judge.specs.Facts.Obeying.{start, more, same}
@@ -209,10 +209,23 @@ blocking-size i j c h k l =
       digit c l,
     )
 
-tolerance-size : (t : ℕ) → t < 10 → length (toleranceLine t) ≤ 12
+tolerance-size : (t : ℕ) → t < 10 → length (toleranceLine t) ≤ 21
 unfolding toleranceLine
-tolerance-size t h =
-    omega (arith, join-more (said "tolerance ") (decimal t ∷ said "\n" ∷ []), join-more (decimal t) (said "\n" ∷ []), join-more (said "\n") [], join-none, digit t h)
+tolerance-size t h = go (eqb t 0)
+  where
+    go : (b : Bool) → length (cond b (said "tolerance not stated\n") (flatten (said "tolerance " ∷ decimal t ∷ said "\n" ∷ []))) ≤ 21
+    go true = lit≤ tt
+    go false =
+        omega (arith, join-more (said "tolerance ") (decimal t ∷ said "\n" ∷ []), join-more (decimal t) (said "\n" ∷ []), join-more (said "\n") [], join-none, digit t h)
+
+-- a tolerance is no more than the sites that obey
+tolerance-most : (m : ℕ) → toleranceOf m ≤ m
+unfolding toleranceOf
+tolerance-most m = go (leb 3 m)
+  where
+    go : (b : Bool) → cond {A = ℕ} b (m - 1) 0 ≤ m
+    go true = omega arith
+    go false = omega arith
 
 pub refused-size : (g : ℕ) → g < 256 → length (refusedLine g) ≤ 12
 unfolding refusedLine
@@ -235,7 +248,7 @@ ruling-size s v h (nonblocking e a b c n) = simp e (omega arith)
 ruling-size s v h (blocking e l) =
     simp e (blocking-size (v .site) (v .state) (v .condition) (omega (arith, l .most)) (omega (arith, l .small)) (breaks-low (l .broken)))
 
-pub accepted-size : (s : Sheet) (v : Verdict) → Fine s → v .states ≤ 4096 → Says s v → length (acceptedText s v) ≤ 3722
+pub accepted-size : (s : Sheet) (v : Verdict) → Fine s → v .states ≤ 4096 → Says s v → length (acceptedText s v) ≤ 3731
 unfolding acceptedText lineIn
 accepted-size s v f n a =
     let rest3 : List (List ℕ) = toleranceLine (v .tolerance) ∷ [] in
@@ -251,7 +264,7 @@ accepted-size s v f n a =
       head-size (v .sites) (v .states) (omega (arith, a .sites, f .most)) (omega arith),
       lines-size s (v .locals) each 32 (omega arith),
       ruling-size s v (f .most) (a .ruling),
-      tolerance-size (v .tolerance) (omega (arith, a .tolerance .is, obeying-most (a .tolerance .obeying), f .most)),
+      tolerance-size (v .tolerance) (omega (arith, a .tolerance .is, tolerance-most (a .tolerance .sites), obeying-most (a .tolerance .obeying), f .most)),
     )
   where
     each : (p : ℕ) → p < 32 → length (lineIn s (v .locals) p) ≤ 114

@@ -34,7 +34,7 @@ accepted b w₀ w v (unread l n x e) z = absurd (n (sym (ap (λ (y : Verdict). y
 accepted b w₀ w v (judged l n j) z =
     let a = accepted-judged (sheetOf b) w₀ w v j z in record { read = n; few = a .0; says = a .1 }
 
-module _ (b w₀ w t₀ t : List ℕ) (v : Verdict) (r : ℕ) (h : 3722 ≤ length t₀) (o : Outcome b w₀ w v) where
+module _ (b w₀ w t₀ t : List ℕ) (v : Verdict) (r : ℕ) (h : 3731 ≤ length t₀) (o : Outcome b w₀ w v) where
   tells : (x : List ℕ) → x ≡ textOf (sheetOf b) v → Put t₀ 0 x t r → Reported b w₀ w t₀ t r
   tells x e p =
       let n : r ≡ length x = omega (arith, p .to) in

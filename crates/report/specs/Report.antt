@@ -85,9 +85,9 @@ blockingLine site state condition =
 unfoldable pub rulingLine : Verdict → List ℕ
 rulingLine v = cond (v .nonblocking) (said "verdict nonblocking\n") (blockingLine (v .site) (v .state) (v .condition))
 
--- the last line: the verdict's tolerance
+-- the last line: the verdict's tolerance; where none is stated, "the last line reads `tolerance not stated`" (02, Ask 2)
 unfoldable pub toleranceLine : ℕ → List ℕ
-toleranceLine t = flatten (said "tolerance " ∷ decimal t ∷ said "\n" ∷ [])
+toleranceLine t = cond (eqb t 0) (said "tolerance not stated\n") (flatten (said "tolerance " ∷ decimal t ∷ said "\n" ∷ []))
 
 -- "`refused N`", N the ground
 unfoldable pub refusedLine : ℕ → List ℕ
@@ -104,10 +104,10 @@ acceptedText s v =
 unfoldable pub textOf : Sheet → Verdict → List ℕ
 textOf s v = cond (eqb (v .refusal) 0) (acceptedText s v) (refusedLine (v .refusal))
 
--- the longest text has 3,722 bytes: a first line of at most 26, for each of 32 states one of at most 114 (24 states of other sites in its
--- set), a verdict of at most 36 and a tolerance of at most 12
+-- the longest text has 3,731 bytes: a first line of at most 26, for each of 32 states one of at most 114 (24 states of other sites in its
+-- set), a verdict of at most 36 and a tolerance of at most 21
 abbrev pub longest : ℕ
-longest = 3722
+longest = 3731
 
 -- what is left of bytes, words and room: with less room than the longest text nothing is touched and the answer is 0; else the sheet is
 -- judged, its text stands at the start, the rest of the room is unchanged, and the answer is the length

@@ -193,6 +193,9 @@ fn put_tolerance(out: &mut [u8], at: usize, tolerance: u8) -> usize
     requires { ⌜ at + length (toleranceLine tolerance) ≤ length (now out) ⌝ }
     ensures { λ r. ⌜ Put (now (out .entry)) at (toleranceLine tolerance) (now (out .exit)) r ⌝ }
 {
+    if tolerance == 0 {
+        return text::put(out, at, b"tolerance not stated\n");
+    }
     let word = text::put(out, at, b"tolerance ");
     let number = text::put_decimal(out, word, tolerance as usize);
     text::put(out, number, b"\n")

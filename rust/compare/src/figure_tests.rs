@@ -57,10 +57,17 @@ fn the_edge_of_what_is_reachable() {
     assert_eq!(sheets(&product(&[8, 8, 8, 8], true).bytes()), "refused 30\n");
 }
 
+/// The coordinator and those with three phases obey: two of three sites, and three of four.
 #[test]
 fn a_mixture_blocks_and_tolerates() {
-    let (_, verdict, tolerance) = summary(&central(&[true, false]));
-    assert_eq!((&*verdict, &*tolerance), ("verdict blocking at 3.1 condition 1", "tolerance 1"));
+    let mixtures = [
+        (central(&[true, false]), "verdict blocking at 3.1 condition 1", "tolerance not stated"),
+        (central(&[true, true, false]), "verdict blocking at 4.1 condition 1", "tolerance 2"),
+    ];
+    for (mixture, verdict, tolerance) in mixtures {
+        let found = summary(&mixture);
+        assert_eq!((&*found.1, &*found.2), (verdict, tolerance));
+    }
 }
 
 #[test]

@@ -12,6 +12,8 @@ pub mod tally;
 
 #[cfg(test)]
 mod figure_tests;
+#[cfg(test)]
+mod obeying_tests;
 
 /// The Rust in README.md compiles and runs as it stands there.
 #[cfg(doctest)]

@@ -43,8 +43,8 @@ pub fn rehearsal(path: &str, count: u64) -> io::Result<Tally> {
 /// The sheet program on sheets of every sort, some of them longer than it takes.
 pub fn sheets(path: &str, count: u64) -> io::Result<Tally> {
     let mut random = Random::new(9);
-    let mut faulty = crate::sheet::faulty(&mut random).into_iter();
-    let input = || match faulty.next() {
+    let mut known = crate::sheet::known(&mut random).into_iter();
+    let input = || match known.next() {
         Some(case) => case.bytes,
         None => any_case(&mut random).bytes,
     };

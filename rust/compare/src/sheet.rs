@@ -2,8 +2,9 @@
 
 use crate::inputs::drafts::Draft;
 use crate::inputs::sheets::{any_case, renamed, Case};
-use crate::inputs::{faults, figures, pattern, Random};
+use crate::inputs::{faults, figures, obeying, pattern, Random};
 use crate::tally::Tally;
+use std::collections::BTreeMap;
 
 /// A program's `fj_sheet_judge` and `fj_sheet_report`.
 #[derive(Clone, Copy)]
@@ -12,8 +13,9 @@ pub struct Judging {
     pub report: fn(&[u8], &mut [u64], &mut [u8]) -> usize,
 }
 
-/// The bytes of the judge's answer, and a room that is large enough for every report.
+/// The bytes of the judge's answer, the least room for a report, and one that is more than enough.
 pub const OUT: usize = 206;
+pub const ROOM: usize = 3731;
 pub const AMPLE: usize = 1 << 14;
 
 /// What the lent words hold before a call.
@@ -21,25 +23,47 @@ fn words(length: usize) -> Vec<u64> {
     (0..length as u64).map(|place| !place).collect()
 }
 
+/// A number of sites, and how many of them obey.
+pub type Obeying = (u8, usize);
+
+/// How many sites an accepted sheet has and how many of them obey, by the judge's answer: a site
+/// obeys where none of its eight states decides `blocked`, 3.
+pub fn obeying_in(out: &[u8]) -> Obeying {
+    let blocked = |local: &[u8]| local[1] == 3;
+    let sites = out[14..OUT].chunks(8 * 6).take(out[0].into());
+    (out[0], sites.filter(|site| !site.chunks(6).any(blocked)).count())
+}
+
 struct Comparison {
     first: Judging,
     second: Judging,
     random: Random,
     tally: Tally,
+    /// How many accepted sheets were met, by how many of their sites obey.
+    met: BTreeMap<Obeying, u64>,
 }
 
-/// Compares two programs on every pair of faults, then on `count` sheets of every sort.
+/// Compares two programs on every pair of faults and every set of obeying sites, then on `count`
+/// sheets of every sort. Prints how many sheets were met by how many of their sites obey.
 pub fn compare(first: Judging, second: Judging, count: u64) -> Tally {
-    let random = Random::new(6);
-    let mut comparison = Comparison { first, second, random, tally: Tally::default() };
-    for case in faulty(&mut Random::new(8)) {
+    let (random, tally, met) = (Random::new(6), Tally::default(), BTreeMap::new());
+    let mut comparison = Comparison { first, second, random, tally, met };
+    for case in known(&mut Random::new(8)) {
         comparison.look(&case);
     }
     for _ in 0..count {
         let case = any_case(&mut comparison.random);
         comparison.look(&case);
     }
+    comparison.tell_met();
     comparison.tally
+}
+
+/// Sheets of which it is known what they show: faults, then sets of obeying sites.
+pub fn known(random: &mut Random) -> Vec<Case> {
+    let mut cases = faulty(random);
+    cases.extend(obeying::cases(random));
+    cases
 }
 
 /// Sheets with no fault, each fault alone, each fault after each other, and each fault where too
@@ -76,8 +100,9 @@ impl Comparison {
         }
         self.report(case, AMPLE);
         if self.random.once_in(8) {
-            let short = self.random.below(3722) as usize;
-            self.report(case, short);
+            let short = self.random.below(ROOM as u64) as usize;
+            let room = *self.random.pick(&[short, ROOM - 1, ROOM]);
+            self.report(case, room);
         }
     }
 
@@ -90,6 +115,9 @@ impl Comparison {
         let (first, second) = (made(self.first), made(self.second));
         let described = || format!("judge {:?} words {} room {room}", case.bytes, case.words);
         self.tally.note(&first, &second, described);
+        if second.0 == 0 {
+            *self.met.entry(obeying_in(&second.1)).or_default() += 1;
+        }
     }
 
     fn report(&mut self, case: &Case, room: usize) {
@@ -101,5 +129,15 @@ impl Comparison {
         let (first, second) = (made(self.first), made(self.second));
         let described = || format!("report {:?} words {} room {room}", case.bytes, case.words);
         self.tally.note(&first, &second, described);
+    }
+
+    /// Every number of obeying sites was met, of two to four sites.
+    fn tell_met(&mut self) {
+        for ((sites, obeying), count) in &self.met {
+            println!("{sites} sites of which {obeying} obey: {count} sheets");
+        }
+        let met: Vec<Obeying> = self.met.keys().copied().collect();
+        let every = (2..=4).flat_map(|sites| (0..=sites.into()).map(move |obey| (sites, obey)));
+        self.tally.note(&met, &every.collect(), || "how many sites obey".to_string());
     }
 }

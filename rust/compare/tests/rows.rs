@@ -1,6 +1,6 @@
-//! Document 01, and what 02 adds to it, row by row, through the library and through the second
-//! program. What is expected is written down from them by hand, so that a reader can hold each row
-//! against its sentence; neither program has a part in it.
+//! Documents 01 and 02, row by row, through the library and through the second program. What is
+//! expected is written down from them by hand, so that a reader can hold each row against its
+//! sentence; neither program has a part in it.
 
 mod rows {
     mod days;

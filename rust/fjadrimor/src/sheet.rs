@@ -9,8 +9,8 @@ const OUT: usize = 206;
 const LOCAL: usize = 6;
 /// Where the local states begin, eight for each site.
 const LOCALS: usize = 14;
-/// Room for the longest report.
-const ROOM: usize = 1 << 16;
+/// The least room for a report: the longest has so many bytes.
+const ROOM: usize = 3731;
 
 /// A commit protocol of two to four sites, as the bytes of document 01's record.
 #[derive(Clone, Debug, PartialEq, Eq, Hash)]
@@ -53,7 +53,10 @@ pub struct Local {
 pub struct Judgement {
     pub sites: u8,
     pub verdict: Verdict,
-    pub tolerance: u8,
+    /// At least so many sites may stop, whichever they are, and one that is never blocked is left.
+    /// Stated from three such sites up, as their number less one; `None` says only that there are
+    /// fewer.
+    pub tolerance: Option<u8>,
     /// The numbers of the reachable global states, ascending.
     pub reachable: Vec<u64>,
     locals: Vec<[u8; LOCAL]>,
@@ -81,6 +84,7 @@ impl Sheet {
             0 => Verdict::Blocking { site, state, condition },
             _ => Verdict::Nonblocking,
         };
+        let tolerance = (tolerance != 0).then_some(tolerance);
         let locals = out[LOCALS..].chunks_exact(LOCAL).flat_map(<[u8; LOCAL]>::try_from).collect();
         Ok(Judgement { sites, verdict, tolerance, reachable: words, locals })
     }

@@ -27,7 +27,7 @@ fn two_phase() -> Sheet {
 fn two_phase_commit_is_blocking() {
     let judgement = two_phase().judge().unwrap();
     assert_eq!(judgement.verdict, Verdict::Blocking { site: 2, state: 1, condition: 1 });
-    assert_eq!((judgement.sites, judgement.tolerance), (2, 0));
+    assert_eq!((judgement.sites, judgement.tolerance), (2, None));
     assert_eq!(judgement.reachable.len(), 9);
     assert_eq!(judgement.reachable[0], 1);
     assert!(judgement.reachable.is_sorted());
@@ -54,10 +54,21 @@ fn its_report() {
     assert_eq!(two_phase().report(), include_str!("../../../crates/sheets/stdout"));
 }
 
+/// So many sites with one working state each, and nothing to do.
+fn idle(sites: u8) -> Sheet {
+    let states = [1, 0].map(|byte| vec![byte; sites.into()]).concat();
+    Sheet::from_bytes([&[0, 7 + 2 * sites, 1, sites][..], &states, &[0; 5]].concat())
+}
+
 #[test]
 fn a_sheet_without_transitions_is_nonblocking() {
-    let sheet = Sheet::from_bytes(vec![0, 11, 1, 2, 1, 1, 0, 0, 0, 0, 0, 0, 0]);
-    assert_eq!(sheet.judge().unwrap().verdict, Verdict::Nonblocking);
+    assert_eq!(idle(2).judge().unwrap().verdict, Verdict::Nonblocking);
+}
+
+#[test]
+fn a_tolerance_is_stated_from_three_sites_up() {
+    let tolerance = |sites| idle(sites).judge().unwrap().tolerance;
+    assert_eq!([2, 3, 4].map(tolerance), [None, Some(2), Some(3)]);
 }
 
 #[test]

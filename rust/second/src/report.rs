@@ -8,6 +8,10 @@ use std::collections::BTreeSet;
 /// The bytes of the judge's answer.
 const OUT: usize = 206;
 
+/// The bytes of the longest report: a first line of 26, a line of 114 for each of 32 states (with
+/// all 24 states of the other sites in its set), a verdict of 36, and `tolerance not stated`.
+const LONGEST: usize = 26 + 32 * 114 + 36 + 21;
+
 /// The sheet program's text: the report of what it takes of its input.
 pub fn sheets(input: &[u8]) -> String {
     report(&read(taken(input)).and_then(|sheet| judge(&sheet)))
@@ -29,7 +33,15 @@ pub fn report(judged: &Result<Judgement, u8>) -> String {
             format!("verdict blocking at {site}.{state} condition {condition}\n")
         }
     };
-    text + &format!("tolerance {}\n", judgement.tolerance)
+    text + &last_line(judgement.tolerance)
+}
+
+/// 02: the tolerance where it is stated, "otherwise the last line reads `tolerance not stated`".
+fn last_line(tolerance: Option<usize>) -> String {
+    match tolerance {
+        Some(stops) => format!("tolerance {stops}\n"),
+        None => "tolerance not stated\n".to_string(),
+    }
 }
 
 /// "Per state: site.state, mark (w, a, c), reached, set (or `-`), committable, decision."
@@ -80,7 +92,8 @@ pub fn sheet_judge(bytes: &[u8], words: &mut [u64], out: &mut [u8]) -> u8 {
     }
 }
 
-/// The judgement as bytes: eight, six zeros, then six for each of 32 local states.
+/// The judgement as bytes: eight, six zeros, then six for each of 32 local states. A tolerance that
+/// is not stated is 0.
 fn answer(judgement: &Judgement, out: &mut [u8]) {
     let states = judgement.reach.len();
     let (site, state, condition) = judgement.witness.unwrap_or_default();
@@ -92,7 +105,7 @@ fn answer(judgement: &Judgement, out: &mut [u8]) {
         site,
         state,
         condition,
-        judgement.tolerance as u8,
+        judgement.tolerance.unwrap_or(0) as u8,
     ];
     out[..8].copy_from_slice(&head);
     for (&local, found) in &judgement.findings {
@@ -112,7 +125,7 @@ fn place((site, state): Local) -> usize {
 
 /// `fj_sheet_report`: 0, and nothing is touched, where the room is smaller than the longest report.
 pub fn sheet_report(bytes: &[u8], words: &mut [u64], room: &mut [u8]) -> usize {
-    if room.len() < 3722 {
+    if room.len() < LONGEST {
         return 0;
     }
     put(&report(&judge_in(bytes, words)), room)

@@ -24,6 +24,7 @@ pub struct Judgement {
     findings: [Finding; 32],
     /// Site, state and condition, or zeros.
     witness: [u8; 3],
+    /// 0 where none is stated.
     tolerance: u8,
 }
 
@@ -164,7 +165,7 @@ fn judge(bytes: &[u8], words: &mut [u64]) -> Result<Judgement, u8> {
         .map_or([0; 3], |place| [place as u8 / 8 + 1, place as u8 % 8, findings[place].broken]);
     let obeying = findings.chunks_exact(8).take(sheet.sites as usize);
     let obeying = obeying.filter(|site| site.iter().all(|found| found.broken == 0)).count();
-    let tolerance = obeying.saturating_sub(1) as u8;
+    let tolerance = if obeying < 3 { 0 } else { obeying as u8 - 1 };
     Ok(Judgement { sheet, states, findings, witness, tolerance })
 }
 
@@ -236,8 +237,13 @@ fn report(judged: &Judgement) -> Vec<u8> {
             text.extend([b'0' + condition, b'\n']);
         }
     }
-    text.extend_from_slice(b"tolerance ");
-    text.extend([b'0' + judged.tolerance, b'\n']);
+    match judged.tolerance {
+        0 => text.extend_from_slice(b"tolerance not stated\n"),
+        stops => {
+            text.extend_from_slice(b"tolerance ");
+            text.extend([b'0' + stops, b'\n']);
+        }
+    }
     text
 }
 
@@ -249,7 +255,7 @@ fn refused(ground: u8) -> Vec<u8> {
 }
 
 /// The longest report.
-const LONGEST: usize = 3722;
+const LONGEST: usize = 3731;
 
 /// `fj_sheet_report`.
 pub fn sheet_report(bytes: &[u8], words: &mut [u64], room: &mut [u8]) -> usize {

@@ -11,6 +11,7 @@ use crate::inputs::journals::{any_fields, Journals};
 use crate::inputs::runs::{any_run, Events, RUN};
 use crate::inputs::sheets::any_case;
 use crate::inputs::{any_site, any_step, steps, Random};
+use crate::sheet::{OUT, ROOM};
 use crate::tally::Tally;
 use calls::{Call, Entry};
 use lent::Way;
@@ -138,8 +139,8 @@ impl Hostile {
             Entry::RecordRead => self.record_read(),
             Entry::RecordWrite => self.record_write(),
             Entry::Rehearse => self.rehearse(),
-            Entry::SheetJudge => self.sheet(entry, 206),
-            Entry::SheetReport => self.sheet(entry, 3722),
+            Entry::SheetJudge => self.sheet(entry, OUT),
+            Entry::SheetReport => self.sheet(entry, ROOM),
         }
     }
 }

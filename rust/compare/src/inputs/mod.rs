@@ -5,6 +5,7 @@ pub mod drafts;
 pub mod faults;
 pub mod figures;
 pub mod journals;
+pub mod obeying;
 pub mod runs;
 pub mod sheets;
 

@@ -3,7 +3,7 @@
 
 use super::words::*;
 use compare::inputs::drafts::{product, Draft, Move};
-use compare::sheet::Judging;
+use compare::sheet::{Judging, ROOM};
 
 /// The judge's answer to these bytes. Refused, "all else zero: 20 to 29 leave the words; 30 and 31 set
 /// the first 4,096 to zero"; later words stay always. The report prints "`refused N` only", and leaves
@@ -18,7 +18,7 @@ fn judged(program: Judging, bytes: &[u8]) -> u8 {
         _ => assert!(words[..4096].iter().all(|&word| word == 0)),
     }
     assert!(ground == 0 || out[..206].iter().all(|&byte| byte == 0));
-    let (mut again, mut text) = (vec![5; 4098], vec![9; 3722]);
+    let (mut again, mut text) = (vec![5; 4098], vec![9; ROOM]);
     let length = (program.report)(bytes, &mut again, &mut text);
     let refused = format!("refused {ground}\n");
     assert!(ground == 0 || text[..length] == *refused.as_bytes());

@@ -2,7 +2,9 @@
 //! reports, and the numbers that the judge leaves in the words lent to it.
 
 use super::words::*;
-use compare::inputs::drafts::Draft;
+use compare::inputs::drafts::{product, Draft};
+use compare::inputs::obeying::obeyed_by;
+use compare::sheet::{OUT, ROOM};
 
 /// A sheet's report, and the numbers of its reachable states.
 fn hold(sheet: &Draft, text: &str, numbers: &[u64]) {
@@ -53,7 +55,7 @@ fn the_worked_sheet() {
                 2.2 a y 1.1,1.2 n abort\n\
                 2.3 c y 1.3 y commit\n\
                 verdict blocking at 2.1 condition 1\n\
-                tolerance 0\n";
+                tolerance not stated\n";
     let numbers = [
         number(1 << 0, 0b00, [0, 0, 0, 0]),
         number(1 << 1, 0b00, [1, 0, 0, 0]),
@@ -69,7 +71,8 @@ fn the_worked_sheet() {
 }
 
 /// "The same two sites with a prepared state between w and c on each side, site 1 voting as it enters
-/// p: 11 states, nonblocking, tolerance 1." State 4 is p; message 5 is prepare, 6 ack, 7 commit.
+/// p: 11 states, nonblocking"; and by 02 "both two-site examples in 01 change in that line", the
+/// last. State 4 is p; message 5 is prepare, 6 ack, 7 commit.
 #[test]
 fn the_worked_sheet_with_a_prepared_state() {
     let marks = vec![vec![WORKING, WORKING, ABORTED, COMMITTED, WORKING]; 2];
@@ -89,7 +92,7 @@ fn the_worked_sheet_with_a_prepared_state() {
                 2.3 c y 1.3 y commit\n\
                 2.4 w y 1.3,1.4 y commit\n\
                 verdict nonblocking\n\
-                tolerance 1\n";
+                tolerance not stated\n";
     let numbers = [
         number(1 << 0, 0b00, [0, 0, 0, 0]),
         number(1 << 1, 0b00, [1, 0, 0, 0]),
@@ -107,7 +110,7 @@ fn the_worked_sheet_with_a_prepared_state() {
 }
 
 /// The bytes of the judge's answer on the worked sheet: sites, states, nonblocking, the verdict's
-/// site, state and condition, tolerance, zeros; then for each local state what is reached (1) and
+/// site, state and condition, 0 for a tolerance that is not stated, zeros; then for each local state what is reached (1) and
 /// committable (2), its decision, and its set.
 #[test]
 fn the_answer_on_the_worked_sheet() {
@@ -156,7 +159,7 @@ fn committable() {
              2.0 w y 1.0 n abort\n\
              2.1 w y 1.0,1.1 n blocked\n\
              verdict blocking at 2.1 condition 2\n\
-             tolerance 0\n"
+             tolerance not stated\n"
         )
     };
     for (votes, committable) in [([1, 1], "y"), ([0, 1], "n"), ([1, 0], "n"), ([0, 0], "n")] {
@@ -204,7 +207,7 @@ fn a_final_state_decides_its_own() {
                 2.1 w y 1.1,1.2 y abort\n\
                 2.2 c y 1.2 y commit\n\
                 verdict nonblocking\n\
-                tolerance 1\n";
+                tolerance not stated\n";
     hold(&agreed(ABORTED), text, &numbers_of_agreed());
 }
 
@@ -219,12 +222,12 @@ fn a_working_state_decides_by_its_set() {
                 2.1 w y 1.1,1.2 y commit\n\
                 2.2 c y 1.2 y commit\n\
                 verdict nonblocking\n\
-                tolerance 1\n";
+                tolerance not stated\n";
     hold(&agreed(COMMITTED), text, &numbers_of_agreed());
 }
 
-/// "Else blocked where a condition is broken", in final states too; and "0 if none obeys". Each site
-/// aborts or commits by itself: one site may read a message in several transitions.
+/// "Else blocked where a condition is broken", in final states too. Each site aborts or commits by
+/// itself: one site may read a message in several transitions.
 #[test]
 fn a_final_state_can_be_blocked() {
     let alone = |site, message| [1, 2].map(|to| go(site, 0, to, 0, &[message], &[]));
@@ -238,7 +241,7 @@ fn a_final_state_can_be_blocked() {
                 2.1 a y 1.0,1.1,1.2 n blocked\n\
                 2.2 c y 1.0,1.1,1.2 n blocked\n\
                 verdict blocking at 1.0 condition 1\n\
-                tolerance 0\n";
+                tolerance not stated\n";
     let numbers = [
         number(0b11, 0, [0, 0, 0, 0]),
         number(0b10, 0, [1, 0, 0, 0]),
@@ -267,7 +270,7 @@ fn the_lowest_is_shown() {
                 2.1 c y 1.0,1.1 n commit\n\
                 2.2 a y 1.1 n abort\n\
                 verdict blocking at 1.0 condition 2\n\
-                tolerance 0\n";
+                tolerance not stated\n";
     let numbers = [
         number(0b011, 0, [0, 0, 0, 0]),
         number(0b101, 0, [1, 0, 0, 0]),
@@ -292,7 +295,7 @@ fn the_lowest_site_comes_first() {
                 2.0 w y 1.0,1.1,1.2 n blocked\n\
                 2.1 c y 1.2 n blocked\n\
                 verdict blocking at 1.2 condition 2\n\
-                tolerance 0\n";
+                tolerance not stated\n";
     let numbers = [
         number(1 << 0, 0, [0, 0, 0, 0]),
         number(0, 0, [1, 0, 0, 0]),
@@ -323,7 +326,7 @@ fn committable_and_blocked() {
                 2.2 a y 1.2 y abort\n\
                 2.3 c y 1.2 y commit\n\
                 verdict blocking at 1.2 condition 1\n\
-                tolerance 0\n";
+                tolerance not stated\n";
     let numbers = [
         number(1 << 0, 0b00, [0, 0, 0, 0]),
         number(1 << 1, 0b01, [1, 0, 0, 0]),
@@ -335,8 +338,8 @@ fn committable_and_blocked() {
     hold(&Draft::new(marks, 1, moves), text, &numbers);
 }
 
-/// "Tolerance: the number of obeying sites less one." Sites 2, 3, 1 vote in turn, site 2 moves again,
-/// and site 1 commits: only site 3, which never learns that all have voted, is blocked.
+/// Sites 2, 3, 1 vote in turn, site 2 moves again, and site 1 commits: only site 3, which never learns
+/// that all have voted, is blocked. Two obeying sites have no tolerance.
 #[test]
 fn three_sites_of_which_two_obey() {
     let marks = vec![vec![WORKING, WORKING, COMMITTED], vec![WORKING; 3], vec![WORKING, WORKING]];
@@ -357,7 +360,7 @@ fn three_sites_of_which_two_obey() {
                 3.0 w y 1.0,2.0,2.1 n abort\n\
                 3.1 w y 1.0,1.1,1.2,2.1,2.2 n blocked\n\
                 verdict blocking at 3.1 condition 2\n\
-                tolerance 1\n";
+                tolerance not stated\n";
     let numbers = [
         number(1 << 0, 0b000, [0, 0, 0, 0]),
         number(1 << 1, 0b010, [0, 1, 0, 0]),
@@ -367,6 +370,63 @@ fn three_sites_of_which_two_obey() {
         number(0, 0b111, [2, 2, 1, 0]),
     ];
     hold(&Draft::new(marks, 1, moves), text, &numbers);
+}
+
+/// How many sites, how many of them obey, the verdict, the tolerance in words and in the answer.
+type Tolerance = (usize, usize, &'static str, &'static str, u8);
+
+/// 02: "The tolerance is stated only when three or more sites obey, as that count less one; otherwise
+/// the last line reads `tolerance not stated`." In the judge's answer it is then 0.
+const TOLERANCES: [Tolerance; 12] = [
+    (2, 0, "verdict blocking at 1.3 condition 2", "tolerance not stated", 0),
+    (2, 1, "verdict blocking at 2.1 condition 2", "tolerance not stated", 0),
+    (2, 2, "verdict nonblocking", "tolerance not stated", 0),
+    (3, 0, "verdict blocking at 1.3 condition 2", "tolerance not stated", 0),
+    (3, 1, "verdict blocking at 2.1 condition 2", "tolerance not stated", 0),
+    (3, 2, "verdict blocking at 3.1 condition 2", "tolerance not stated", 0),
+    (3, 3, "verdict nonblocking", "tolerance 2", 2),
+    (4, 0, "verdict blocking at 1.3 condition 2", "tolerance not stated", 0),
+    (4, 1, "verdict blocking at 2.1 condition 2", "tolerance not stated", 0),
+    (4, 2, "verdict blocking at 3.1 condition 2", "tolerance not stated", 0),
+    (4, 3, "verdict blocking at 4.1 condition 2", "tolerance 2", 2),
+    (4, 4, "verdict nonblocking", "tolerance 3", 3),
+];
+
+/// The lowest sites obey, and the next one has voted and waits while another commits; where none
+/// obeys, nobody has voted as site 1 commits beside others.
+#[test]
+fn the_tolerance_by_the_number_of_obeying_sites() {
+    for (program, (sites, obeying, verdict, tolerance, number)) in each(JUDGES, &TOLERANCES) {
+        let set: Vec<bool> = (0..*sites).map(|site| site < *obeying).collect();
+        let sheet = obeyed_by(&set, false).bytes();
+        let text = report(program, &sheet);
+        assert!(text.ends_with(&format!("\n{verdict}\n{tolerance}\n")), "{set:?}\n{text}");
+        let mut out = [9; OUT];
+        assert_eq!((program.judge)(&sheet, &mut [0; 4096], &mut out), 0);
+        assert_eq!(out[7], *number, "{set:?}");
+    }
+}
+
+/// The longest text: four sites of eight states that are found together in every way, all blocked,
+/// for beside each there is a site that has aborted and one that has committed. It fills the least
+/// room to its end; with a byte less nothing is touched.
+#[test]
+fn the_longest_report() {
+    let mut sheet = product(&[8; 4], false);
+    for (marks, last) in sheet.marks.iter_mut().zip([ABORTED, COMMITTED, ABORTED, COMMITTED]) {
+        marks[7] = last;
+    }
+    for program in JUDGES {
+        let told = |room: usize| {
+            let mut text = vec![b'?'; room];
+            let length = (program.report)(&sheet.bytes(), &mut [0; 4096], &mut text);
+            (length, String::from_utf8(text).expect("text"))
+        };
+        let (length, text) = told(ROOM);
+        assert_eq!((length, text.matches(" blocked\n").count()), (ROOM, 32));
+        assert!(text.ends_with("\ntolerance not stated\n"));
+        assert_eq!(told(ROOM - 1), (0, "?".repeat(ROOM - 1)));
+    }
 }
 
 /// "A transition is possible where its site is in `from` and all it reads is outstanding; it takes
@@ -412,7 +472,7 @@ fn votes() {
                 1.2 w y 2.0 n blocked\n\
                 2.0 c y 1.0,1.1,1.2 n commit\n\
                 verdict blocking at 1.0 condition 2\n\
-                tolerance 0\n";
+                tolerance not stated\n";
     let numbers = [
         number(1 << 0, 0b00, [0, 0, 0, 0]),
         number(1 << 1, 0b00, [1, 0, 0, 0]),
@@ -430,7 +490,7 @@ fn no_transitions() {
                1.0 w y 2.0 n abort\n\
                2.0 w y 1.0 n abort\n\
                verdict nonblocking\n\
-               tolerance 1\n";
+               tolerance not stated\n";
     hold(&Draft::new(vec![vec![WORKING]; 2], 0, vec![]), two, &[0]);
     hold(&Draft::new(vec![vec![WORKING]; 2], 1 << 31, vec![]), two, &[1 << 31]);
     let three = "sheet 3 sites 1 states\n\
@@ -438,6 +498,6 @@ fn no_transitions() {
                  2.0 c y 1.0,3.0 n commit\n\
                  3.0 w y 1.0,2.0 n blocked\n\
                  verdict blocking at 1.0 condition 2\n\
-                 tolerance 0\n";
+                 tolerance not stated\n";
     hold(&Draft::new(vec![vec![ABORTED], vec![COMMITTED], vec![WORKING]], 0, vec![]), three, &[0]);
 }

@@ -55,6 +55,18 @@ fn the_gallery_has_a_row_for_each_sheet() {
     }
 }
 
+/// The report with names has the plain report's tolerance in its words.
+#[test]
+fn a_tolerance_is_told_alike() {
+    for (name, text) in sheets() {
+        let sheet = notation::read(&text).expect("the gallery is good");
+        let judged = library::judge(&sheet.bytes()).expect("it is accepted");
+        let plain = String::from_utf8(library::report(&sheet.bytes())).expect("text");
+        let last = plain.lines().last().expect("a last line");
+        assert!(judge::text(&sheet, &judged).lines().any(|line| line == last), "{name}: {last}");
+    }
+}
+
 #[test]
 fn a_comment_tells_what_was_left_out_and_what_the_verdict_means() {
     for (name, text) in sheets() {

@@ -18,8 +18,7 @@ pub fn text(sheet: &Sheet, judgement: &Judgement) -> String {
     for site in 1..=sheet.sites.len() {
         text += &table(sheet, judgement, site as u8);
     }
-    let (verdict, tolerance) = (verdict(sheet, judgement), judgement.tolerance);
-    text += &format!("\nverdict {verdict}\ntolerance {tolerance}\n");
+    text += &format!("\nverdict {}\n{}\n", verdict(sheet, judgement), tolerance(judgement));
     text += &blocked(sheet, judgement);
     let search = Search::of(sheet);
     let explained = explain::explanation(sheet, judgement, &search);
@@ -80,6 +79,14 @@ pub fn verdict(sheet: &Sheet, judgement: &Judgement) -> String {
         Some((site, state, condition)) => {
             format!("blocking at {} condition {condition}", sheet.called((site, state)))
         }
+    }
+}
+
+/// The tolerance in words, as the report's last line has it.
+pub fn tolerance(judgement: &Judgement) -> String {
+    match judgement.tolerance {
+        None => "tolerance not stated".to_string(),
+        Some(stops) => format!("tolerance {stops}"),
     }
 }
 

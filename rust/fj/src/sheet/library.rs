@@ -8,7 +8,8 @@ pub struct Judgement {
     pub states: usize,
     /// The site, state and condition that a blocking verdict shows.
     pub witness: Option<(u8, u8, u8)>,
-    pub tolerance: u8,
+    /// None where the library states none.
+    pub tolerance: Option<u8>,
     findings: Vec<Finding>,
 }
 
@@ -59,7 +60,7 @@ fn judgement(out: &[u8; OUT]) -> Judgement {
     Judgement {
         states: usize::from(out[1]) * 256 + usize::from(out[2]),
         witness: (out[3] == 0).then_some(witness),
-        tolerance: out[7],
+        tolerance: (out[7] != 0).then_some(out[7]),
         findings: out[14..].chunks(6).map(finding).collect(),
     }
 }

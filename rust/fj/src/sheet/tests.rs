@@ -182,6 +182,7 @@ fn the_figures_of_the_paper() {
         ("central-two-phase-2", figures::central(&[false])),
         ("central-two-phase-4", figures::central(&[false; 3])),
         ("central-three-phase-3", figures::central(&[true; 2])),
+        ("mixed-central-4", figures::central(&[true, true, false])),
         ("mixed-central-4-one", figures::central(&[false, true, false])),
         ("decentral-two-phase-4", figures::decentral(4, false)),
         ("decentral-three-phase-3", figures::decentral(3, true)),
@@ -196,7 +197,7 @@ fn the_figures_of_the_paper() {
     }
 }
 
-/// Document 01's worked report, byte for byte.
+/// Document 01's worked report, with the last line that document 02 gives it, byte for byte.
 #[test]
 fn the_worked_example() {
     let two = notation::read(&gallery("central-two-phase-2")).expect("the gallery is good");
@@ -211,7 +212,7 @@ fn the_worked_example() {
 2.2 a y 1.1,1.2 n abort
 2.3 c y 1.3 y commit
 verdict blocking at 2.1 condition 1
-tolerance 0
+tolerance not stated
 ";
     assert_eq!(library::report(&two.bytes()), text.as_bytes());
 }
@@ -225,7 +226,7 @@ fn a_report_with_names() {
         "site 2 slave",
         "  2.1 w  working  yes      no           blocked   1.1 w, 1.2 a, 1.3 c",
         "verdict blocking at 2.1 w condition 1",
-        "tolerance 0",
+        "tolerance not stated",
         "2.1 w is blocked:",
     ];
     for line in lines {

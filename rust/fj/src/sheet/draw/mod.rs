@@ -129,8 +129,8 @@ fn head(sheet: &Sheet, judged: &Result<Judgement, u8>) -> Vec<Line> {
     let verdict = match judged {
         Err(ground) => refusal::text(*ground, Some(sheet)),
         Ok(judged) => {
-            let verdict = judge::verdict(sheet, judged);
-            format!("{verdict}; tolerance {}; {} global states", judged.tolerance, judged.states)
+            let (verdict, tolerance) = (judge::verdict(sheet, judged), judge::tolerance(judged));
+            format!("{verdict}; {tolerance}; {} global states", judged.states)
         }
     };
     let first = match sheet.first {
