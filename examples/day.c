@@ -51,8 +51,9 @@ static unsigned long number(const uint8_t *bytes)
     return value;
 }
 
-/* Hands over a journal, prints what became of it, and tells its place: where the next record starts. */
-static size_t hands_over(uint8_t *run, const uint8_t *journal, size_t length)
+/* Hands over a journal, prints what became of it, and tells its place: where the next record starts.
+   Returns 0 or the refusal. */
+static uint8_t hands_over(uint8_t *run, const uint8_t *journal, size_t length, size_t *place)
 {
     uint8_t answer[FJ_DAY_ANSWER];
     uint8_t ground = fj_run_journal(run, FJ_RUN, journal, length, answer, sizeof answer);
@@ -63,7 +64,8 @@ static size_t hands_over(uint8_t *run, const uint8_t *journal, size_t length)
     if (ground != 0)
         printf("; refused %d at byte %lu", ground, number(answer + FJ_DAY_PLACE));
     putchar('\n');
-    return number(answer + FJ_DAY_PLACE);
+    *place = number(answer + FJ_DAY_PLACE);
+    return ground;
 }
 
 /* Exchanges a record with the one after it. */
@@ -85,9 +87,11 @@ int main(void)
         fprintf(stderr, "refused %d\n", ground);
         return 1;
     }
-    size_t place = hands_over(run, journal, sizeof journal);
-    if (sizeof journal - place >= 2 * FJ_RECORD)
+    size_t place, rest;
+    ground = hands_over(run, journal, sizeof journal, &place);
+    if (ground != 0 && sizeof journal - place >= 2 * FJ_RECORD) {
         exchanges(journal + place);
-    hands_over(run, journal + place, sizeof journal - place);
-    return 0;
+        ground = hands_over(run, journal + place, sizeof journal - place, &rest);
+    }
+    return ground != 0;
 }

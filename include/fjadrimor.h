@@ -244,10 +244,12 @@ uint8_t fj_run_event(uint8_t *run, size_t run_len, uint8_t k, uint8_t s, uint8_t
  * one record after another would.
  *
  * journal: event records (below), any bytes and as many as there are, with no number of sites before
- *          them. They are taken from the front until one is refused or no byte is left.
+ *          them: of what `fj assemble` writes, all but the first byte. They are taken from the front
+ *          until one is refused or no byte is left. A journal is of one run, that is of one entry:
+ *          keep one for each, since what follows behind a close is taken for events of the same run.
  *
- * Written to the first 25 bytes of answer: how many events were accepted; how many messages they
- * wrote; the place, the byte at which the refused record starts, or journal_len where none is
+ * Written to the first 25 bytes of answer: how many events were accepted, taken or passed over; how
+ * many messages they wrote; the place, the byte at which the refused record starts, or journal_len where none is
  * refused; and how many sites the acting site of the last accepted event still awaits, 0 after a
  * stop and where none was accepted. The first three are 8 bytes each, big-endian. Written to run:
  * its bytes after the accepted events. So with a refusal, too, what was accepted counts: whoever
@@ -262,7 +264,9 @@ uint8_t fj_run_event(uint8_t *run, size_t run_len, uint8_t k, uint8_t s, uint8_t
  *    1 to 6   as fj_run_event has them: 1 is a run that is not sound, or, after some accepted
  *             events, no longer
  * So a run that is not sound is refused at the first record that can be read, and with an empty
- * journal not at all.
+ * journal not at all: a return of 0 does not say that a run is sound. The refused record's number is
+ * place / 9 + 1, counted from the slice that was handed over. Save the run and the place together:
+ * records that are handed over twice meet a run that has taken them already.
  */
 uint8_t fj_run_journal(uint8_t *run, size_t run_len, const uint8_t *journal, size_t journal_len,
                        uint8_t *answer, size_t answer_len);

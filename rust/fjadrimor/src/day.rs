@@ -11,15 +11,17 @@ const NUMBER: usize = 8;
 #[derive(Clone, Copy, Debug, PartialEq, Eq, Hash)]
 #[must_use = "a record may have been refused"]
 pub struct Day {
-    /// The number of events accepted. The run is as after these.
+    /// The number of events accepted, taken or passed over. The run is as after these.
     pub accepted: usize,
     /// The number of messages that they wrote.
     pub written: usize,
-    /// The byte at which the refused record starts; the journal's length where none is refused.
+    /// The byte at which the refused record starts; the journal's length where none is refused. It
+    /// counts from the records that were handed over, nine bytes for each.
     pub place: usize,
-    /// The number of sites still awaited after the last accepted event; 0 where none was accepted.
+    /// How many sites the acting site of the last accepted event still awaits; 0 after a stop, and
+    /// where none was accepted. Whether the close is over is read from the states.
     pub awaited: u8,
-    /// Why the record at `place` was refused, if one was.
+    /// Why the record at `place` was refused, if one was: by the reader, or by the run.
     pub refusal: Option<Refusal>,
 }
 

@@ -32,8 +32,9 @@
 //!
 //! # What else there is
 //!
-//! - [`Run`]: all sites together with the messages between them, for rehearsals and tests. An
-//!   [`Event`] is a step of one site, a stop, or a stop inside a step.
+//! - [`Run`]: all sites of an entry together with the messages between them, for rehearsals, tests
+//!   and operations that hand over a journal. An [`Event`] is a step of one site, a stop, or a stop
+//!   inside a step.
 //! - [`Journal`]: events as bytes, and their rehearsal as text. [`Run::journal`] takes a whole day's
 //!   records in one call, and [`Day`] is its answer.
 //! - [`Sheet`]: a commit protocol written down, and the [`Verdict`] whether it is nonblocking.

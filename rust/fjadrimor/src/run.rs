@@ -97,13 +97,15 @@ impl Run {
         let [outcome, written, awaited] = answer;
         Ok(Ran { outcome: Outcome::of_byte(outcome), written, awaited })
     }
+
     /// The events of a day's journal happen: its records, from the front, until one is refused by
     /// the reader (10 to 14) or by the run (1 to 6), or no byte is left. It comes out as
     /// [`Run::happens`] on one event after another would. The run is as after the accepted ones.
     ///
     /// `records` may be any bytes, as many as there are. It has no number of sites before the first
     /// record: of a [`Journal`](crate::Journal) these are the
-    /// [`records`](crate::Journal::records).
+    /// [`records`](crate::Journal::records). A journal is of one run, that is of one entry; what
+    /// follows behind its close is taken for events of the same one.
     ///
     /// ```
     /// use fjadrimor::{Event, Journal, Refusal, Run, Step, Vote};
