@@ -2,3 +2,4 @@
 pub mod DayLaws
 pub mod Going
 pub mod AsCalls
+pub mod Handed

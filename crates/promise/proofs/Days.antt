@@ -6,7 +6,7 @@ use mathlib.Core.List.{List, [], _∷_, _++_}
 use mathlib.Core.Path.{_≡_, refl, sym, ap, subst, _∙_}
 use mathlib.Core.Logic.{_≢_, _⊎_}
 use native.Mathlib.Omega.{arith}
-use native.Mathlib.Nat.{add-zero}
+use native.Mathlib.Nat.{add-zero, zero-add}
 use lib.ListN.{length}
 use Rattle.site.specs.declared.State.the-variants.{A, C}
 use Rattle.site.specs.declared.Outcome.the-variants.{Refused}
@@ -15,17 +15,21 @@ use Rattle.run.specs.declared.Event.{Event}
 use Rattle.run.specs.Run.{stateOf, hasStopped}
 use Rattle.run.specs.Event.{freshOf, eventOf}
 use Rattle.run.specs.After.{Tale, acceptedBy, onward, told, opening, after}
+use Rattle.run.proofs.GoodRuns.{accepted-one}
 use Rattle.day.specs.Day.{dayOf}
-use Rattle.day.specs.OneByOne.{Accepted, runAfter, Ends, AsCalls}
+use Rattle.journal.proofs.JournalLaws.{journalOf, AllTold}
+use Rattle.day.specs.OneByOne.{Accepted, runAfter, writtenBy, Ends, AsCalls}
 use Rattle.day.specs.OneByOne.Accepted.{none, next}
 use Rattle.day.specs.OneByOne.Ends.{over, unread, refused}
 use Rattle.day.proofs.AsCalls.{as-calls}
 use Rattle.day.proofs.DayLaws.{bad-ground}
+use Rattle.day.proofs.Handed.{handed-run, handed-accepted, handed-written}
 use Rattle.promise.specs.Words.{IsSite, IsStop, reached, Accepts, Voted, ByCalls}
 use Rattle.promise.specs.Words.ByCalls.{fresh, event, journal}
 use Rattle.promise.specs.Promise.{Promise, DayPromise}
 use Rattle.promise.proofs.RunAfter.{after-on}
 use Rattle.promise.proofs.Promised.{promised}
+use Rattle.promise.proofs.Examples.{posting, longest, posting-commits, posting-writes, posting-told, posting-accepts, longest-told, longest-length, longest-accepts}
 
 -- ---- events one by one, as a tale tells them
 
@@ -81,17 +85,40 @@ module _ (n : ℕ) where
 
 -- ---- the ten claims
 
--- a run of events is one of calls
-by-events : (n : ℕ) (es : List Event) (r : Run) (k : ℕ) → ByCalls n r k → (t : Tale) → t .run ≡ r → t .accepted ≡ k → ByCalls n (told t es .run) (told t es .accepted)
+-- a list of which as many are accepted as it has is accepted throughout
+accepted-most : (t : Tale) (es : List Event) → told t es .accepted ≤ t .accepted + length es
 unfolding onward
-by-events n [] r k b t e f = subst (λ (w : Run). ByCalls n w (t .accepted)) (sym e) (subst (ByCalls n r) (sym f) b)
-by-events n (e ∷ es) r k b t p q =
-    by-events n es (eventOf r e .run) (k + acceptedBy (eventOf r e .outcome)) (event b e) (onward t e) (ap (λ (w : Run). eventOf w e .run) p)
-    (λ i. q i + acceptedBy (eventOf (p i) e .outcome))
+accepted-most t [] = omega arith
+accepted-most t (e ∷ es) = omega (arith, accepted-most (onward t e) es, accepted-one (eventOf (t .run) e .outcome))
 
-from-fresh : (n : ℕ) (es : List Event) → ByCalls n (reached n es) (after n es .accepted)
-unfolding after opening
-from-fresh n es = by-events n es _ _ fresh (opening n) refl refl
+all-accepted : (t : Tale) (es : List Event) → told t es .accepted ≡ t .accepted + length es → Accepted (t .run) es
+unfolding onward
+all-accepted t [] h = none
+all-accepted t (e ∷ es) h =
+    let a : acceptedBy (eventOf (t .run) e .outcome) ≡ 1 = omega (arith, accepted-most (onward t e) es, accepted-one (eventOf (t .run) e .outcome)) in
+    next a (all-accepted (onward t e) es (omega (arith, a)))
+
+told-written : (t : Tale) (es : List Event) → told t es .written ≡ t .written + writtenBy (t .run) es
+unfolding onward
+told-written t [] = omega arith
+told-written t (e ∷ es) = told-written (onward t e) es ∙ omega arith
+
+-- a journal of events that are all accepted, handed over from fresh, comes to what they do
+module _ (n : ℕ) (es : List Event) (t : AllTold es) (c : after n es .accepted ≡ length es) where
+  all-from-fresh : Accepted (freshOf n .run) es
+  unfolding after opening
+  all-from-fresh = all-accepted (opening n) es (c ∙ sym (zero-add (length es)))
+
+  fresh-run : dayOf (freshOf n .run) (journalOf es) .run ≡ reached n es
+  unfolding after opening
+  fresh-run = handed-run (freshOf n .run) es t all-from-fresh ∙ sym (told-run (opening n) es)
+
+  fresh-written : dayOf (freshOf n .run) (journalOf es) .day .written ≡ after n es .written
+  unfolding after opening
+  fresh-written = handed-written (freshOf n .run) es t all-from-fresh ∙ sym (told-written (opening n) es ∙ zero-add (writtenBy (freshOf n .run) es))
+
+  fresh-accepted : dayOf (freshOf n .run) (journalOf es) .day .accepted ≡ length es
+  fresh-accepted = handed-accepted (freshOf n .run) es t all-from-fresh
 
 -- a journal ends with 6 only where an event is refused with it
 no-conflict : {r : Run} {l : List ℕ} {g : ℕ} → Ends r l g → ((e : Event) → eventOf r e .outcome ≢ Refused 6) → g ≢ 6
@@ -152,8 +179,9 @@ module _ (n : ℕ) (least : 2 ≤ n) (most : n ≤ 8) where
 
   pub days-promised : DayPromise n
   days-promised =
-      let es = of-events .posts .0 in
-      let fs = of-events .exact-bound .1 .0 in
+      let told = posting-told n least most in
+      let all = posting-accepts n least most in
+      let long = longest-length n least most in
       record {
         agreement = agreement-of;
         commit-stays = commit-of;
@@ -163,6 +191,13 @@ module _ (n : ℕ) (least : 2 ≤ n) (most : n ≤ 8) where
         only-stops-left = stops-of;
         event-bound = bound-of;
         never-conflict = conflict-of;
-        posts = (reached n es, after n es .accepted, from-fresh n es, of-events .posts .1);
-        exact-bound = (λ r k b. exact-of b, (reached n fs, subst (ByCalls n (reached n fs)) (of-events .exact-bound .1 .1) (from-fresh n fs)));
+        posts = (
+          journalOf (posting n),
+          λ i p. ap (λ (w : Run). stateOf w i) (fresh-run n (posting n) told all) ∙ posting-commits n least most i (p .0) (p .1),
+          fresh-written n (posting n) told all ∙ posting-writes n least most,
+        );
+        exact-bound = (
+          λ r k b. exact-of b,
+          (journalOf (longest n), fresh-accepted n (longest n) (longest-told n least most) (longest-accepts n least most ∙ sym long) ∙ long),
+        );
       }

@@ -6,6 +6,7 @@ use mathlib.Core.List.{List, [], _∷_, _++_}
 use mathlib.Core.Path.{_≡_, refl, ap, _∙_}
 use native.Mathlib.Omega.{arith}
 use lib.Count.{ones}
+use lib.ListN.{length}
 use lib.Dec.{eqb}
 use borrow.Author.Tests.{eqb-true, le-leb}
 use Rattle.sets.proofs.Truths.{and-l, and-r}
@@ -26,6 +27,9 @@ use Rattle.run.proofs.SoundLaws.{every-at}
 use Rattle.run.specs.Event.{freshOf, isActor, stepGround, stopGround, applied, goesOf, eventOf}
 use Rattle.run.specs.After.{Tale, acceptedBy, onward, told, opening, after}
 use Rattle.run.proofs.GoodRuns.{IsGood, good-kept, fresh-good}
+use Rattle.fields.specs.Ranges.{isKnown, kindFrom, mayName, namesSite, takesVote, isVote, usedOr0, stepRanges, inRanges}
+use Rattle.fields.specs.Fields.{fieldsFrom, stepFrom, madeOf, toldBy, eventInRecord, groundMade}
+use Rattle.journal.proofs.JournalLaws.{AllTold}
 use Rattle.promise.proofs.Count.{by-size}
 
 -- ---- the runs
@@ -131,3 +135,37 @@ quickly-accepts = by-size (λ n. briskly (fresh-tale n) (longest n) .accepted �
 
 pub longest-accepts : (n : ℕ) → 2 ≤ n → n ≤ 8 → after n (longest n) .accepted ≡ 2 * n ^ 2 + 3 * n - 1
 longest-accepts n p q = ap (λ (t : Tale). t .accepted) (briskly-after n (longest n) p q) ∙ quickly-accepts n p q
+
+-- ---- as journals
+
+-- no ground stands against their records
+told-all : List Event → Bool
+told-all [] = true
+told-all (e ∷ es) = eqb (groundMade (eventInRecord (fieldsFrom e))) 0 && told-all es
+
+all-told : (es : List Event) → told-all es ≡ true → AllTold es
+unfolding told-all
+all-told [] h = tt
+all-told (e ∷ es) h =
+    let a : eqb (groundMade (eventInRecord (fieldsFrom e))) 0 ≡ true = and-l (eqb (groundMade (eventInRecord (fieldsFrom e))) 0) (told-all es) h in
+    (eqb-true _ _ a, all-told es (and-r (eqb (groundMade (eventInRecord (fieldsFrom e))) 0) (told-all es) h))
+
+pub posting-told : (n : ℕ) → 2 ≤ n → n ≤ 8 → AllTold (posting n)
+unfolding turns preparing posting told-all isKnown kindFrom mayName namesSite takesVote isVote usedOr0 stepRanges inRanges stepFrom madeOf toldBy eventInRecord
+posting-told n p q = all-told (posting n) (by-size (λ n. told-all (posting n) ≡ true) refl refl refl refl refl refl refl n p q)
+
+pub longest-told : (n : ℕ) → 2 ≤ n → n ≤ 8 → AllTold (longest n)
+unfolding turns preparing leading longest told-all isKnown kindFrom mayName namesSite takesVote isVote usedOr0 stepRanges inRanges stepFrom madeOf toldBy eventInRecord
+longest-told n p q = all-told (longest n) (by-size (λ n. told-all (longest n) ≡ true) refl refl refl refl refl refl refl n p q)
+
+-- all of them are accepted
+quickly-all : (n : ℕ) → 2 ≤ n → n ≤ 8 → briskly (fresh-tale n) (posting n) .accepted ≡ length (posting n)
+unfolding turns preparing posting brisk briskly bit isSite has weightOf union both minus withSite without subset allOf othersOf belowOf countOf ones soundOf endsOf toAll inRun polls collects awaitedOf beginOf startOf voteOf tallyOf obeyOf ackOf takeOverOf settleOf noticeOf concludeOf deliverOf doneOf answered stepOf hasRow place stateOf knows outstanding hasStopped takenOut sentBy stoppedAt isActor stepGround stopGround applied goesOf
+quickly-all = by-size (λ n. briskly (fresh-tale n) (posting n) .accepted ≡ length (posting n)) refl refl refl refl refl refl refl
+
+pub posting-accepts : (n : ℕ) → 2 ≤ n → n ≤ 8 → after n (posting n) .accepted ≡ length (posting n)
+posting-accepts n p q = ap (λ (t : Tale). t .accepted) (briskly-after n (posting n) p q) ∙ quickly-all n p q
+
+pub longest-length : (n : ℕ) → 2 ≤ n → n ≤ 8 → length (longest n) ≡ 2 * n ^ 2 + 3 * n - 1
+unfolding turns preparing leading longest
+longest-length = by-size (λ n. length (longest n) ≡ 2 * n ^ 2 + 3 * n - 1) refl refl refl refl refl refl refl

@@ -42,11 +42,11 @@ pub record Promise (n : ℕ) : Type 0 where
 -- the events of all of them counted together. That it holds is the theorem `days-promised` (proofs/Days.antt).
 pub record DayPromise (n : ℕ) : Type 0 where
   pub agreement : {r : Run} {k : ℕ} → ByCalls n r k → (i j : ℕ) → IsSite n i → IsSite n j → stateOf r i ≡ C → stateOf r j ≡ A → ⊥
-  -- Whatever journal is handed over.
+  -- Whatever journal is handed over next; of a single event `Promise` says it.
   pub commit-stays : {r : Run} {k : ℕ} → ByCalls n r k → (l : List ℕ) (i : ℕ) → stateOf r i ≡ C → stateOf (dayOf r l .run) i ≡ C
   pub abort-stays : {r : Run} {k : ℕ} → ByCalls n r k → (l : List ℕ) (i : ℕ) → stateOf r i ≡ A → stateOf (dayOf r l .run) i ≡ A
   pub stopped-stays : {r : Run} {k : ℕ} → ByCalls n r k → (l : List ℕ) (i : ℕ) → hasStopped r i ≡ true → hasStopped (dayOf r l .run) i ≡ true
-  -- The votes are in the events that the calls accepted and refused, one after another.
+  -- Some list of events that reaches the same run has all the votes.
   pub all-voted : {r : Run} {k : ℕ} → ByCalls n r k → (i : ℕ) → IsSite n i → stateOf r i ≡ C
       → (es : List Event) × (r ≡ reached n es) × ((j : ℕ) → IsSite n j → Voted (freshOf n .run) es j)
   pub only-stops-left : {r : Run} {k : ℕ} → ByCalls n r k → ((e : Event) → Accepts r e → IsStop e)
@@ -54,5 +54,6 @@ pub record DayPromise (n : ℕ) : Type 0 where
   pub event-bound : {r : Run} {k : ℕ} → ByCalls n r k → k ≤ 5 * (n - 1) + 3 * (n - 1) * (n - 2) / 2 + (n + 1) ^ 2
   -- No journal ends with ground 6.
   pub never-conflict : {r : Run} {k : ℕ} → ByCalls n r k → (l : List ℕ) → dayOf r l .day .refusal ≢ 6
-  pub posts : (r : Run) × (k : ℕ) × ByCalls n r k × ((i : ℕ) → IsSite n i → stateOf r i ≡ C)
-  pub exact-bound : ((r : Run) (k : ℕ) → ByCalls n r k → k ≤ 2 * n ^ 2 + 3 * n - 1) × ((r : Run) × ByCalls n r (2 * n ^ 2 + 3 * n - 1))
+  -- After some journal that is handed over from fresh, every site is in commit, with 5(n-1) messages written.
+  pub posts : (l : List ℕ) × ((i : ℕ) → IsSite n i → stateOf (dayOf (freshOf n .run) l .run) i ≡ C) × (dayOf (freshOf n .run) l .day .written ≡ 5 * (n - 1))
+  pub exact-bound : ((r : Run) (k : ℕ) → ByCalls n r k → k ≤ 2 * n ^ 2 + 3 * n - 1) × ((l : List ℕ) × (dayOf (freshOf n .run) l .day .accepted ≡ 2 * n ^ 2 + 3 * n - 1))

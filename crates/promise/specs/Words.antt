@@ -11,7 +11,7 @@ use Rattle.site.specs.declared.Step.the-variants.{Begin, Start}
 use Rattle.run.specs.declared.Run.{Run}
 use Rattle.run.specs.declared.Event.{Event}
 use Rattle.run.specs.declared.Event.the-variants.{Act, Stop, Cut}
-use Rattle.run.specs.Event.{freshOf, eventOf}
+use Rattle.run.specs.Event.{freshOf, eventOf, nextOf}
 use Rattle.run.specs.After.{acceptedBy, after}
 use Rattle.day.specs.Day.{dayOf}
 
@@ -44,5 +44,5 @@ pub data Voted : Run → List Event → ℕ → Type 0 where
 -- A run that calls have reached from fresh, single events and whole journals (02, Ask 1), with so many events accepted in all of them together.
 pub data ByCalls (n : ℕ) : Run → ℕ → Type 0 where
   fresh : ByCalls n (freshOf n .run) 0
-  event : {r : Run} {k : ℕ} → ByCalls n r k → (e : Event) → ByCalls n (eventOf r e .run) (k + acceptedBy (eventOf r e .outcome))
+  event : {r : Run} {k : ℕ} → ByCalls n r k → (e : Event) → ByCalls n (nextOf r e .run) (k + acceptedBy (nextOf r e .outcome))
   journal : {r : Run} {k : ℕ} → ByCalls n r k → (l : List ℕ) → ByCalls n (dayOf r l .run) (k + dayOf r l .day .accepted)
