@@ -261,8 +261,8 @@ uint8_t fj_run_event(uint8_t *run, size_t run_len, uint8_t k, uint8_t s, uint8_t
  *       journal is looked at, also where it is empty. Leaves run and writes 25 zeros
  * and then, for each record:
  *   10 to 14  as fj_record_read has them
- *    1 to 6   as fj_run_event has them: 1 is a run that is not sound, or, after some accepted
- *             events, no longer
+ *    1 to 6   as fj_run_event has them: 1 where the run is not sound, at the start or after some
+ *             accepted events
  * So a run that is not sound is refused at the first record that can be read, and with an empty
  * journal not at all: a return of 0 does not say that a run is sound. The refused record's number is
  * place / 9 + 1, counted from the slice that was handed over. Save the run and the place together:
@@ -337,8 +337,8 @@ size_t fj_rehearse(const uint8_t *input, size_t input_len, uint8_t *text, size_t
  *     1 to 2   the number of reachable states, big-endian
  *     3        1 where the sheet is nonblocking
  *     4 to 6   where it is blocking: the lowest site, its state, the condition broken
- *     7        tolerance: from three sites up that obey (none of whose states is blocked) their
- *              number less one; 0 where fewer do, and none is stated
+ *     7        tolerance: where three or more sites obey, their number less one; else 0, for none
+ *              is stated. A site obeys when none of its states is blocked
  *     8 to 13  zeros
  *    14 to 205 six bytes for each local state, state j of site i at 14 + 6 * (8 * (i - 1) + j);
  *              zeros where the sheet has no such state:

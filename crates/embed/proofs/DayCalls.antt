@@ -5,7 +5,7 @@ use mathlib.Core.List.{List, [], _∷_, _++_, flatten}
 use mathlib.Core.Path.{_≡_, ap, _∙_}
 use native.Mathlib.Omega.{arith}
 use lib.ListN.{length, drop, set, length-append}
-use Rattle.text.specs.Text.{Put, reached, spliced}
+use Rattle.text.specs.Text.{Put, endOf, spliced}
 use Rattle.text.proofs.TextLaws.{put-byte, put-length}
 use Rattle.text.proofs.Putting.{Going, begin, fits-next, next, next-by, ended}
 
@@ -14,7 +14,7 @@ module _ (room a b c : List ℕ) (w : ℕ) (p : length a ≡ 8) (q : length b �
   unfolding flatten
   long = omega (arith, length-append a (b ++ (c ++ (w ∷ []))), length-append b (c ++ (w ∷ [])), length-append c (w ∷ []), p, q, s)
 
-  module _ {l₁ l₂ l₃ : List ℕ} {k₁ k₂ k₃ : ℕ} (e : (k₁ ≡ reached room 0 a) × (l₁ ≡ spliced room 0 a)) (f : (k₂ ≡ reached l₁ k₁ b) × (l₂ ≡ spliced l₁ k₁ b)) (g : (k₃ ≡ reached l₂ k₂ c) × (l₃ ≡ spliced l₂ k₂ c)) where
+  module _ {l₁ l₂ l₃ : List ℕ} {k₁ k₂ k₃ : ℕ} (e : (k₁ ≡ endOf room 0 a) × (l₁ ≡ spliced room 0 a)) (f : (k₂ ≡ endOf l₁ k₁ b) × (l₂ ≡ spliced l₁ k₁ b)) (g : (k₃ ≡ endOf l₂ k₂ c) × (l₃ ≡ spliced l₂ k₂ c)) where
     under-way : Going room 0 (flatten (a ∷ b ∷ c ∷ (w ∷ []) ∷ [])) ((w ∷ []) ∷ []) l₃ k₃
     under-way = next-by (next-by (next-by (begin room 0 (a ∷ b ∷ c ∷ (w ∷ []) ∷ []) (omega (arith, long))) e) f) g
 

@@ -26,9 +26,9 @@ eightOf k =
 
 -- the first 25 bytes of the answer: accepted, written and place, then awaited
 unfoldable pub dayBytes : Day → List ℕ
-dayBytes d = eightOf (d .accepted) ++ (eightOf (d .written) ++ (eightOf (d .at) ++ (d .awaited ∷ [])))
+dayBytes d = eightOf (d .accepted) ++ (eightOf (d .written) ++ (eightOf (d .place) ++ (d .awaited ∷ [])))
 
--- the refusal, the run as after the accepted events, and the answer, "always written, also with a refusal"
+-- the refusal, the run as after the accepted events, and the answer, which is written with a refusal too
 abbrev pub dayLeaves : Stepped → List ℕ → LeftBoth
 dayLeaves x room = leavesBoth (x .day .refusal) (runBytes (x .run)) (dayBytes (x .day) ++ drop 25 room)
 

@@ -33,7 +33,7 @@ fn put_day(room: &mut [u8], day: Day)
 {
     let written = text::put(room, 0, &eight(day.accepted));
     let place = text::put(room, written, &eight(day.written));
-    let awaited = text::put(room, place, &eight(day.at));
+    let awaited = text::put(room, place, &eight(day.place));
     room[awaited] = day.awaited;
 }
 

@@ -18,8 +18,8 @@ use Rattle.run.specs.After.{Tale, acceptedBy, onward, told, opening, after}
 use Rattle.run.proofs.GoodRuns.{accepted-one}
 use Rattle.day.specs.Day.{dayOf}
 use Rattle.journal.proofs.JournalLaws.{journalOf, AllTold}
-use Rattle.day.specs.OneByOne.{Accepted, runAfter, writtenBy, Ends, AsCalls}
-use Rattle.day.specs.OneByOne.Accepted.{none, next}
+use Rattle.day.specs.OneByOne.{AllAccepted, runAfter, writtenBy, Ends, AsCalls}
+use Rattle.day.specs.OneByOne.AllAccepted.{none, next}
 use Rattle.day.specs.OneByOne.Ends.{over, unread, refused}
 use Rattle.day.proofs.AsCalls.{as-calls}
 use Rattle.day.proofs.DayLaws.{bad-ground}
@@ -38,7 +38,7 @@ unfolding onward
 told-run t [] = refl
 told-run t (e ∷ es) = told-run (onward t e) es
 
-told-accepted : (t : Tale) (es : List Event) → Accepted (t .run) es → told t es .accepted ≡ t .accepted + length es
+told-accepted : (t : Tale) (es : List Event) → AllAccepted (t .run) es → told t es .accepted ≡ t .accepted + length es
 unfolding onward
 told-accepted t [] none = sym (add-zero (t .accepted))
 told-accepted t (e ∷ es) (next a h) = told-accepted (onward t e) es h ∙ omega (arith, a)
@@ -75,7 +75,7 @@ module _ (n : ℕ) where
   whole {r} {k} t l =
       let d = as-calls r l in
       further t (d .events) _ _ (day-run t l)
-      ((λ i. t .count i + d .accepted i) ∙ sym (told-accepted (after n (t .events)) (d .events) (subst (λ (w : Run). Accepted w (d .events)) (t .run) (d .all))))
+      ((λ i. t .count i + d .accepted i) ∙ sym (told-accepted (after n (t .events)) (d .events) (subst (λ (w : Run). AllAccepted w (d .events)) (t .run) (d .all))))
 
   pub as-events : {r : Run} {k : ℕ} → ByCalls n r k → Told r k
   unfolding after opening
@@ -91,7 +91,7 @@ unfolding onward
 accepted-most t [] = omega arith
 accepted-most t (e ∷ es) = omega (arith, accepted-most (onward t e) es, accepted-one (eventOf (t .run) e .outcome))
 
-all-accepted : (t : Tale) (es : List Event) → told t es .accepted ≡ t .accepted + length es → Accepted (t .run) es
+all-accepted : (t : Tale) (es : List Event) → told t es .accepted ≡ t .accepted + length es → AllAccepted (t .run) es
 unfolding onward
 all-accepted t [] h = none
 all-accepted t (e ∷ es) h =
@@ -105,7 +105,7 @@ told-written t (e ∷ es) = told-written (onward t e) es ∙ omega arith
 
 -- a journal of events that are all accepted, handed over from fresh, comes to what they do
 module _ (n : ℕ) (es : List Event) (t : AllTold es) (c : after n es .accepted ≡ length es) where
-  all-from-fresh : Accepted (freshOf n .run) es
+  all-from-fresh : AllAccepted (freshOf n .run) es
   unfolding after opening
   all-from-fresh = all-accepted (opening n) es (c ∙ sym (zero-add (length es)))
 

@@ -24,7 +24,7 @@ use Rattle.judge.specs.Facts.Breaks.{breaks-1, breaks-2}
 use Rattle.judge.specs.Facts.Obeying.{start, more, same}
 use Rattle.judge.specs.declared.Local.{Local}
 use Rattle.judge.specs.declared.Verdict.{Verdict}
-use Rattle.report.specs.Report.{upTo, nameOf, markWord, yesWord, decisionWord, memberOf, memberIn, membersOf, setWord, lineOf, lineIn, linesOf, headLine, blockingLine, rulingLine, toleranceLine, refusedLine, acceptedText}
+use Rattle.report.specs.Report.{upTo, nameOf, markWord, yesWord, decisionWord, memberOf, memberIn, membersOf, setWord, stateLine, lineIn, stateLines, headLine, blockingLine, rulingLine, toleranceLine, refusedLine, acceptedText}
 
 -- ---- pieces
 
@@ -130,8 +130,8 @@ set-size m i h out = go (eqb m 0)
 
 -- ---- lines
 
-line-size : (p mark i : ℕ) (l : Local) → p < 32 → i < 4 → ((q : ℕ) → bit (l .concurrent) q ≡ true → q / 8 ≢ i) → length (lineOf p mark l) ≤ 114
-unfolding lineOf
+line-size : (p mark i : ℕ) (l : Local) → p < 32 → i < 4 → ((q : ℕ) → bit (l .concurrent) q ≡ true → q / 8 ≢ i) → length (stateLine p mark l) ≤ 114
+unfolding stateLine
 line-size p mark i l h j out =
     let rest6 : List (List ℕ) = decisionWord (l .decision) ∷ [] in
     let rest5 : List (List ℕ) = yesWord (l .committable) ∷ rest6 in
@@ -253,11 +253,11 @@ unfolding acceptedText lineIn
 accepted-size s v f n a =
     let rest3 : List (List ℕ) = toleranceLine (v .tolerance) ∷ [] in
     let rest2 : List (List ℕ) = rulingLine v ∷ rest3 in
-    let rest1 : List (List ℕ) = linesOf s (v .locals) ∷ rest2 in
+    let rest1 : List (List ℕ) = stateLines s (v .locals) ∷ rest2 in
     omega (
       arith,
       join-more (headLine (v .sites) (v .states)) rest1,
-      join-more (linesOf s (v .locals)) rest2,
+      join-more (stateLines s (v .locals)) rest2,
       join-more (rulingLine v) rest3,
       join-more (toleranceLine (v .tolerance)) [],
       join-none,
@@ -270,7 +270,7 @@ accepted-size s v f n a =
     each : (p : ℕ) → p < 32 → length (lineIn s (v .locals) p) ≤ 114
     each p h = go (stands s p) refl
       where
-        go : (b : Bool) → stands s p ≡ b → length (cond b (lineOf p (markOf s p) (getD (v .locals) p noLocal)) []) ≤ 114
+        go : (b : Bool) → stands s p ≡ b → length (cond b (stateLine p (markOf s p) (getD (v .locals) p noLocal)) []) ≤ 114
         go true e =
             line-size p (markOf s p) (p / 8) (getD (v .locals) p noLocal) h (omega arith) (λ q b. a .facts p h e .set .only q b .apart)
         go false e = omega arith

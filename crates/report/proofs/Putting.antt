@@ -11,7 +11,7 @@ use borrow.Author.Tests.{lt-ltb, le-ltb}
 use lib.Dec.{ltb}
 use native.Mathlib.Numerals.{add-one}
 use native.Mathlib.Decide.{decLt}
-use Rattle.text.specs.Text.{Put, reached, spliced}
+use Rattle.text.specs.Text.{Put, endOf, spliced}
 use Rattle.text.proofs.TextLaws.{put-fits, put-then, put-length}
 use Rattle.text.proofs.Putting.{put-none, Going, begin, next-by}
 use Rattle.text.specs.Said.{said}
@@ -20,7 +20,7 @@ use Rattle.report.specs.Report.{upTo, nameOf, memberOf}
 
 -- a word that is the one meant
 pub put-word : (text : List ℕ) (at : ℕ) {part other last : List ℕ} {r : ℕ} → part ≡ other → at + length other ≤ length text
-    → (r ≡ reached text at part) × (last ≡ spliced text at part) → Put text at other last r
+    → (r ≡ endOf text at part) × (last ≡ spliced text at part) → Put text at other last r
 put-word text at {part} {other} {last} {r} e h p =
     subst (λ (l : List ℕ). Put text at l last r) e (put-fits text at part (subst⁻¹ (λ (l : List ℕ). at + length l ≤ length text) e h) p)
 
@@ -93,7 +93,7 @@ later-room text at q b e h = simp e at h
 
 -- after the comma, the name fits
 pub later-going : {text last : List ℕ} {at r : ℕ} (q : ℕ) (b : Bool) → b ≡ true → at + length (memberOf b q) ≤ length text
-    → (r ≡ reached text at (said ",")) × (last ≡ spliced text at (said ","))
+    → (r ≡ endOf text at (said ",")) × (last ≡ spliced text at (said ","))
     → Going text at (flatten (said "," ∷ nameOf q ∷ [])) (nameOf q ∷ []) last r
 later-going {text} {last} {at} {r} q b e h p = next-by (begin text at (said "," ∷ nameOf q ∷ []) (later-room text at q b e h)) p
 

@@ -16,7 +16,7 @@ use Rattle.judge.specs.Outcome.{Outcome}
 use Rattle.judge.specs.Outcome.Outcome.{short, unread, judged}
 use Rattle.judge.specs.Outcome.Judged.{crowded, clashing, fair}
 use Rattle.judge.proofs.OutcomeLaws.{one-outcome}
-use Rattle.report.specs.Report.{textOf, longest, Reported, ToldWhole}
+use Rattle.report.specs.Report.{reportText, longest, Reported, ToldWhole}
 use Rattle.report.specs.Report.Reported.{cramped, told}
 
 pub record Same (w w′ t t′ : List ℕ) (r r′ : ℕ) : Type 0 where
@@ -30,9 +30,9 @@ one-report b w₀ w w′ t₀ t t′ r r′ (cramped h e f g) (told i v o k l) =
 one-report b w₀ w w′ t₀ t t′ r r′ (told h v o e f) (cramped i j k l) = absurd (omega arith)
 one-report b w₀ w w′ t₀ t t′ r r′ (told h v o e f) (told i v′ o′ k l) =
     let s = one-outcome b w₀ w w′ v v′ o o′ in
-    let x : textOf (sheetOf b) v ≡ textOf (sheetOf b) v′ = ap (textOf (sheetOf b)) (s .verdicts) in
+    let x : reportText (sheetOf b) v ≡ reportText (sheetOf b) v′ = ap (reportText (sheetOf b)) (s .verdicts) in
     let n : r ≡ r′ = e ∙ ap length x ∙ sym k in
-    record { words = s .words; texts = f ∙ ap (λ (y : List ℕ). y ++ drop r t₀) x ∙ ap (λ (m : ℕ). textOf (sheetOf b) v′ ++ drop m t₀) n ∙ sym l; lengths = n }
+    record { words = s .words; texts = f ∙ ap (λ (y : List ℕ). y ++ drop r t₀) x ∙ ap (λ (m : ℕ). reportText (sheetOf b) v′ ++ drop m t₀) n ∙ sym l; lengths = n }
 
 -- with words for any sheet, none is refused for want of them
 enough : (b w₀ w : List ℕ) (v : Verdict) → 4096 ≤ length w₀ → Outcome b w₀ w v → v .refusal ≢ 20
@@ -55,4 +55,4 @@ whole {b} {w₀} {w} h i (told l v o e f) = record { verdict = v; outcome = o; w
 
 -- the text stands within the room
 pub whole-fits : {b w₀ w t₀ t : List ℕ} {r : ℕ} → ToldWhole b w₀ w t₀ t r → r ≤ length t
-whole-fits {b} {t₀ = t₀} {r = r} p = omega (arith, p .size, ap length (p .text), length-append (textOf (sheetOf b) (p .verdict)) (drop r t₀))
+whole-fits {b} {t₀ = t₀} {r = r} p = omega (arith, p .size, ap length (p .text), length-append (reportText (sheetOf b) (p .verdict)) (drop r t₀))

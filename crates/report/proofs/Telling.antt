@@ -14,7 +14,7 @@ use Rattle.judge.specs.Outcome.{Outcome, Judged}
 use Rattle.judge.specs.Outcome.Judged.{crowded, clashing, fair}
 use Rattle.judge.specs.Outcome.Outcome.{short, unread, judged}
 use Rattle.judge.specs.declared.Verdict.{Verdict}
-use Rattle.report.specs.Report.{refusedLine, acceptedText, textOf, Reported}
+use Rattle.report.specs.Report.{refusedLine, acceptedText, reportText, Reported}
 use Rattle.report.specs.Report.Reported.{told}
 
 -- no ground stands against an accepted record, and its verdict says what is so
@@ -35,17 +35,17 @@ accepted b w₀ w v (judged l n j) z =
     let a = accepted-judged (sheetOf b) w₀ w v j z in record { read = n; few = a .0; says = a .1 }
 
 module _ (b w₀ w t₀ t : List ℕ) (v : Verdict) (r : ℕ) (h : 3731 ≤ length t₀) (o : Outcome b w₀ w v) where
-  tells : (x : List ℕ) → x ≡ textOf (sheetOf b) v → Put t₀ 0 x t r → Reported b w₀ w t₀ t r
+  tells : (x : List ℕ) → x ≡ reportText (sheetOf b) v → Put t₀ 0 x t r → Reported b w₀ w t₀ t r
   tells x e p =
       let n : r ≡ length x = omega (arith, p .to) in
       told h v o (n ∙ ap length e)
-      (p .bytes ∙ ap (λ (y : List ℕ). y ++ drop (0 + length x) t₀) e ∙ ap (λ (k : ℕ). textOf (sheetOf b) v ++ drop k t₀) (sym (p .to)))
+      (p .bytes ∙ ap (λ (y : List ℕ). y ++ drop (0 + length x) t₀) e ∙ ap (λ (k : ℕ). reportText (sheetOf b) v ++ drop k t₀) (sym (p .to)))
 
   pub tells-refused : (v .refusal ≡ 0 → ⊥) → Put t₀ 0 (refusedLine (v .refusal)) t r → Reported b w₀ w t₀ t r
-  unfolding textOf
+  unfolding reportText
   tells-refused n p = tells (refusedLine (v .refusal)) (simp (ne-eqb (v .refusal) 0 n)) p
 
   pub tells-accepted : (s : Sheet) → s ≡ sheetOf b → v .refusal ≡ 0 → Put t₀ 0 (acceptedText s v) t r → Reported b w₀ w t₀ t r
-  unfolding textOf
+  unfolding reportText
   tells-accepted s is z p =
       tells (acceptedText s v) (simp (eq-eqb (v .refusal) 0 z) (ap (λ (y : Sheet). acceptedText y v) is)) p

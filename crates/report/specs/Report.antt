@@ -57,22 +57,22 @@ unfoldable pub setWord : ℕ → List ℕ
 setWord m = cond (eqb m 0) (said "-") (membersOf m)
 
 -- the line of the local state p with that mark, by what is said of it
-unfoldable pub lineOf : ℕ → ℕ → Local → List ℕ
-lineOf p mark l =
+unfoldable pub stateLine : ℕ → ℕ → Local → List ℕ
+stateLine p mark l =
     flatten
     (nameOf p ∷ markWord mark ∷ yesWord (l .reached) ∷ setWord (l .concurrent) ∷ said " " ∷ yesWord (l .committable) ∷ decisionWord (l .decision) ∷ [])
 
 -- the line of p, where the sheet has that state
 unfoldable pub lineIn : Sheet → List Local → ℕ → List ℕ
-lineIn s l p = cond (stands s p) (lineOf p (markOf s p) (getD l p noLocal)) []
+lineIn s l p = cond (stands s p) (stateLine p (markOf s p) (getD l p noLocal)) []
 
 -- the lines of all its states
-abbrev pub linesOf : Sheet → List Local → List ℕ
-linesOf s l = upTo (λ p before. lineIn s l p) 32
+abbrev pub stateLines : Sheet → List Local → List ℕ
+stateLines s l = upTo (λ p before. lineIn s l p) 32
 
 -- ---- the other lines
 
--- "Condition1 line: sites, reachable global states"
+-- "First line: sites, reachable global states"
 unfoldable pub headLine : ℕ → ℕ → List ℕ
 headLine sites states = flatten (said "sheet " ∷ decimal sites ∷ said " sites " ∷ decimal states ∷ said " states\n" ∷ [])
 
@@ -98,11 +98,11 @@ refusedLine ground = flatten (said "refused " ∷ decimal ground ∷ said "\n" �
 -- an accepted sheet: the first line, a line for each state, the verdict, the tolerance
 unfoldable pub acceptedText : Sheet → Verdict → List ℕ
 acceptedText s v =
-    flatten (headLine (v .sites) (v .states) ∷ linesOf s (v .locals) ∷ rulingLine v ∷ toleranceLine (v .tolerance) ∷ [])
+    flatten (headLine (v .sites) (v .states) ∷ stateLines s (v .locals) ∷ rulingLine v ∷ toleranceLine (v .tolerance) ∷ [])
 
 -- the text for any verdict: "a refused one `refused N` only"
-unfoldable pub textOf : Sheet → Verdict → List ℕ
-textOf s v = cond (eqb (v .refusal) 0) (acceptedText s v) (refusedLine (v .refusal))
+unfoldable pub reportText : Sheet → Verdict → List ℕ
+reportText s v = cond (eqb (v .refusal) 0) (acceptedText s v) (refusedLine (v .refusal))
 
 -- the longest text has 3,731 bytes: a first line of at most 26, for each of 32 states one of at most 114 (24 states of other sites in its
 -- set), a verdict of at most 36 and a tolerance of at most 21
@@ -113,8 +113,8 @@ longest = 3731
 -- judged, its text stands at the start, the rest of the room is unchanged, and the answer is the length
 pub data Reported (bytes w₀ w t₀ t : List ℕ) (r : ℕ) : Type 0 where
   cramped : length t₀ < longest → w ≡ w₀ → t ≡ t₀ → r ≡ 0 → Reported bytes w₀ w t₀ t r
-  told : longest ≤ length t₀ → (v : Verdict) → Outcome bytes w₀ w v → r ≡ length (textOf (sheetOf bytes) v)
-      → t ≡ textOf (sheetOf bytes) v ++ drop r t₀ → Reported bytes w₀ w t₀ t r
+  told : longest ≤ length t₀ → (v : Verdict) → Outcome bytes w₀ w v → r ≡ length (reportText (sheetOf bytes) v)
+      → t ≡ reportText (sheetOf bytes) v ++ drop r t₀ → Reported bytes w₀ w t₀ t r
 
 -- with room for any report and words for any sheet: the sheet is judged, and never refused for want of words; its whole text stands at the start,
 -- the rest of the room is unchanged, and the answer is the length
@@ -122,5 +122,5 @@ pub record ToldWhole (bytes w₀ w t₀ t : List ℕ) (r : ℕ) : Type 0 where
   pub verdict : Verdict
   pub outcome : Outcome bytes w₀ w verdict
   pub worded : verdict .refusal ≢ 20
-  pub size : r ≡ length (textOf (sheetOf bytes) verdict)
-  pub text : t ≡ textOf (sheetOf bytes) verdict ++ drop r t₀
+  pub size : r ≡ length (reportText (sheetOf bytes) verdict)
+  pub text : t ≡ reportText (sheetOf bytes) verdict ++ drop r t₀

@@ -5,7 +5,7 @@ ghost use Prim.Native.Nat.{_+_, _%_, _≤_, _<_};
 ghost use lib.Dec.{ltb};
 ghost use lib.ListN.{length};
 ghost use Rattle.text.specs.Text.{Put};
-ghost use Rattle.report.specs.Report.{nameOf, markWord, yesWord, decisionWord, memberOf, memberIn, membersOf, setWord, lineOf, linesOf, headLine, blockingLine, rulingLine, toleranceLine, refusedLine, acceptedText};
+ghost use Rattle.report.specs.Report.{nameOf, markWord, yesWord, decisionWord, memberOf, memberIn, membersOf, setWord, stateLine, stateLines, headLine, blockingLine, rulingLine, toleranceLine, refusedLine, acceptedText};
 use judge::Local;
 use judge::Verdict;
 use sheet::Sheet;
@@ -106,8 +106,8 @@ fn put_set(out: &mut [u8], at: usize, set: u64) -> usize
 
 // The line of local state p.
 fn put_line(out: &mut [u8], at: usize, p: usize, mark: u8, local: Local) -> usize
-    requires { ⌜ (p < 32) × (at + length (lineOf p mark local) ≤ length (now out)) ⌝ }
-    ensures { λ r. ⌜ Put (now (out .entry)) at (lineOf p mark local) (now (out .exit)) r ⌝ }
+    requires { ⌜ (p < 32) × (at + length (stateLine p mark local) ≤ length (now out)) ⌝ }
+    ensures { λ r. ⌜ Put (now (out .entry)) at (stateLine p mark local) (now (out .exit)) r ⌝ }
 {
     let reached = local.reached;
     let concurrent = local.concurrent as u64;
@@ -124,8 +124,8 @@ fn put_line(out: &mut [u8], at: usize, p: usize, mark: u8, local: Local) -> usiz
 
 // The line of local state p, where its site, of `count` states, has it.
 fn put_if_standing(out: &mut [u8], at: usize, p: usize, count: u8, mark: u8, local: Local) -> usize
-    requires { ⌜ (p < 32) × (at + length (cond (ltb (p % 8) count) (lineOf p mark local) []) ≤ length (now out)) ⌝ }
-    ensures { λ r. ⌜ Put (now (out .entry)) at (cond (ltb (p % 8) count) (lineOf p mark local) []) (now (out .exit)) r ⌝ }
+    requires { ⌜ (p < 32) × (at + length (cond (ltb (p % 8) count) (stateLine p mark local) []) ≤ length (now out)) ⌝ }
+    ensures { λ r. ⌜ Put (now (out .entry)) at (cond (ltb (p % 8) count) (stateLine p mark local) []) (now (out .exit)) r ⌝ }
 {
     if p % 8 < count as usize {
         return put_line(out, at, p, mark, local);
@@ -135,8 +135,8 @@ fn put_if_standing(out: &mut [u8], at: usize, p: usize, count: u8, mark: u8, loc
 
 // The lines of all local states that the sheet has.
 fn put_lines(out: &mut [u8], at: usize, sheet: Sheet, locals: [Local; 32]) -> usize
-    requires { ⌜ at + length (linesOf sheet locals) ≤ length (now out) ⌝ }
-    ensures { λ r. ⌜ Put (now (out .entry)) at (linesOf sheet locals) (now (out .exit)) r ⌝ }
+    requires { ⌜ at + length (stateLines sheet locals) ≤ length (now out) ⌝ }
+    ensures { λ r. ⌜ Put (now (out .entry)) at (stateLines sheet locals) (now (out .exit)) r ⌝ }
 {
     let mut to = at;
     let mut p: usize = 0;

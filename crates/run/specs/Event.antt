@@ -112,7 +112,7 @@ haltedAt r s b = cond b (stoppedAt r s) r
 unfoldable pub applied : Run → ℕ → Effect → Run
 applied r s x = sentBy (haltedAt (takenOut (withRecord r s (x .site)) (x .got) (x .from) s) s (x .stops)) (x .kind) s (x .to)
 
--- "a passed delivery" is passed; any accepted stop is taken
+-- a delivery that is passed over is passed; any accepted stop is taken
 abbrev pub outcomeOf : Run → Event → Outcome
 outcomeOf r (Act s t) = stepOf (siteAt r s) t .outcome
 outcomeOf r (Stop s) = Taken

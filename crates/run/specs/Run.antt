@@ -93,7 +93,7 @@ takenOut r k from s = withNet r (takenIn (r .net) k from s)
 unfoldable pub sentBy : Run → ℕ → ℕ → ℕ → Run
 sentBy r k s to = withNet r (sentIn (r .net) k s (minus to (r .stopped)))
 
--- site s stops: "a stop removes what is addressed to the site"
+-- site s stops: "A stop removes what is addressed to the site"
 unfoldable pub stoppedAt : Run → ℕ → Run
 stoppedAt r s = remade r (withSite (r .stopped) s) (r .sites) (stoppedIn (r .net) s)
 

@@ -34,10 +34,10 @@ theRun t = t .run
 abbrev pub nextWith : Ran → Bool → Next
 nextWith x good = record { tested = record { run = x .run; good = good }; outcome = x .outcome; counts = x .counts }
 
--- the run was found good; no run of more than eight sites is
-abbrev pub isKnown : Tested → Bool
-isKnown t = t .good && leb (t .run .n) 8
+-- the run was found good. That it has at most eight sites follows from that, and is tested so that no caller need show it
+abbrev pub foundGood : Tested → Bool
+foundGood t = t .good && leb (t .run .n) 8
 
 -- an event of a run: ground 1 is tested where the run is not known to be good
 unfoldable pub goneOn : Tested → Event → Next
-goneOn t e = nextWith (cond (isKnown t) (goesOf (t .run) e) (eventOf (t .run) e)) (isKnown t)
+goneOn t e = nextWith (cond (foundGood t) (goesOf (t .run) e) (eventOf (t .run) e)) (foundGood t)

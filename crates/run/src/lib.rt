@@ -511,7 +511,7 @@ impl Run {
     }
 }
 
-// Was a run of so many sites found good? No run of more than eight is.
+// Was a run of so many sites found good? None of more than eight is; that is tested, so that no caller need show it.
 fn known(good: bool, n: u8) -> bool
     ensures { λ r. ⌜ r ≡ (good && leb n 8) ⌝ }
 {

@@ -8,7 +8,7 @@ use native.Mathlib.Nat.{add-zero, add-comm, mul-zero, mul-suc}
 use native.Mathlib.Numerals.{add-one}
 use lib.ListN.{length, getD, take, drop, length-append, length-map, take-append-drop, drop-of-length-le}
 use lib.Seq.{drop-cons}
-use Rattle.text.specs.Text.{Put, reached, spliced}
+use Rattle.text.specs.Text.{Put, endOf, spliced}
 use Rattle.text.proofs.TextLaws.{put-fits, put-then, put-length}
 
 -- nothing is put
@@ -52,7 +52,7 @@ module _ {text x last : List ℕ} {at r : ℕ} {b : List ℕ} {ps : List (List �
         is = append-assoc (g .done) b (flatten ps) ∙ g .is;
       }
 
-  pub next-by : {v : List ℕ} {q : ℕ} → (q ≡ reached last r b) × (v ≡ spliced last r b) → Going text at x ps v q
+  pub next-by : {v : List ℕ} {q : ℕ} → (q ≡ endOf last r b) × (v ≡ spliced last r b) → Going text at x ps v q
   next-by {v} {q} e = next (put-fits last r b fits-next e)
 
 pub ended : {text x last : List ℕ} {at r : ℕ} → Going text at x [] last r → Put text at x last r

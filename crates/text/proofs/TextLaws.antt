@@ -11,12 +11,12 @@ use native.Mathlib.Decide.{decLt}
 use native.Mathlib.Numerals.{add-one}
 use lib.ListN.{length, getD, take, drop, set, length-append, length-drop}
 use lib.Seq.{set-split, take-set-le, drop-cons, drop-drop, take-at, drop-at, length-take-le}
-use Rattle.text.specs.Text.{fits, over, spliced, reached, Put}
+use Rattle.text.specs.Text.{fits, over, spliced, endOf, Put}
 
 -- a part that fits is put
 pub put-fits : (text : List ℕ) (at : ℕ) (part : List ℕ) {last : List ℕ} {r : ℕ} → at + length part ≤ length text
-    → (r ≡ reached text at part) × (last ≡ spliced text at part) → Put text at part last r
-unfolding fits spliced reached
+    → (r ≡ endOf text at part) × (last ≡ spliced text at part) → Put text at part last r
+unfolding fits spliced endOf
 put-fits text at part h e =
     let f : fits (length text) at (length part) ≡ true = le-leb (at + length part) (length text) h in
     record { room = h; to = simp f at (e .0); bytes = simp f at (e .1) }

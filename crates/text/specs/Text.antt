@@ -20,8 +20,8 @@ unfoldable pub spliced : List ℕ → ℕ → List ℕ → List ℕ
 spliced text at part = cond (fits (length text) at (length part)) (over text at part) text
 
 -- where the part ends
-unfoldable pub reached : List ℕ → ℕ → List ℕ → ℕ
-reached text at part = cond (fits (length text) at (length part)) (at + length part) at
+unfoldable pub endOf : List ℕ → ℕ → List ℕ → ℕ
+endOf text at part = cond (fits (length text) at (length part)) (at + length part) at
 
 -- a part that fits was put: there was room, it ends here, and these are the bytes then
 pub record Put (text : List ℕ) (at : ℕ) (part last : List ℕ) (r : ℕ) : Type 0 where

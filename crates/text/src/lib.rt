@@ -4,7 +4,7 @@
 ghost use mathlib.Core.Path.{_≡_};
 ghost use Prim.Native.Nat.{_+_, _≤_, _<_};
 ghost use lib.ListN.{length};
-ghost use Rattle.text.specs.Text.{fits, reached, spliced, Put};
+ghost use Rattle.text.specs.Text.{fits, endOf, spliced, Put};
 ghost use Rattle.text.specs.Decimal.{decimal};
 
 // Do so many bytes fit from a place on?
@@ -31,7 +31,7 @@ fn copy(text: &mut [u8], at: usize, part: &[u8]) -> usize
 
 // Puts a part from a place on, and says where it ends.
 pub fn put(text: &mut [u8], at: usize, part: &[u8]) -> usize
-    ensures { λ r. ⌜ (r ≡ reached (now (text .entry)) at (now (part .entry))) × (now (text .exit) ≡ spliced (now (text .entry)) at (now (part .entry))) ⌝ }
+    ensures { λ r. ⌜ (r ≡ endOf (now (text .entry)) at (now (part .entry))) × (now (text .exit) ≡ spliced (now (text .entry)) at (now (part .entry))) ⌝ }
 {
     if !has_room(text.len(), at, part.len()) {
         return at;
@@ -75,7 +75,7 @@ fn digits(text: &mut [u8], at: usize, n: usize, size: usize) -> usize
 
 // Puts a number from a place on, and says where it ends.
 pub fn put_decimal(text: &mut [u8], at: usize, n: usize) -> usize
-    ensures { λ r. ⌜ (r ≡ reached (now (text .entry)) at (decimal n)) × (now (text .exit) ≡ spliced (now (text .entry)) at (decimal n)) ⌝ }
+    ensures { λ r. ⌜ (r ≡ endOf (now (text .entry)) at (decimal n)) × (now (text .exit) ≡ spliced (now (text .entry)) at (decimal n)) ⌝ }
 {
     let size = width(n);
     if !has_room(text.len(), at, size) {

@@ -6,7 +6,7 @@ use borrow.Author.Tests.{not-true, not-false, leb-true}
 use lib.ListN.{length}
 use Prim.Native.Nat.{_+_}
 use borrow.Author.Needs.{needs}
-use Rattle.text.specs.Text.{fits, spliced, reached}
+use Rattle.text.specs.Text.{fits, spliced, endOf}
 use Rattle.text.proofs.put.Statement.{statement}
 use Rattle.text.proofs.put.Tie as tie
 
@@ -14,7 +14,7 @@ has-room-requires : tie.Need-has-room-requires
 has-room-requires c κs = search needs
 
 returns : tie.Need-returns
-unfolding spliced reached
+unfolding spliced endOf
 returns c =
     let no : fits (length (c .before .before .before .before .args .text .now)) (c .before .before .before .before .args .at) (length (c .before .before .before .before .args .part .now)) ≡ false = (sym (c .before .has-room .ensures) ∙ not-true (c .before .has-room .result) (c .if1 .taken)) in
     (simp no, simp no)
@@ -27,7 +27,7 @@ same-length : tie.Need-same-length
 same-length c = search needs
 
 returns-2 : tie.Need-returns-2
-unfolding spliced reached
+unfolding spliced endOf
 returns-2 c =
     let yes : fits (length (c .before .before .before .before .before .before .before .before .args .text .now)) (c .before .before .before .before .before .before .before .before .args .at) (length (c .before .before .before .before .before .before .before .before .args .part .now)) ≡ true = (sym (c .before .before .before .before .before .has-room .ensures) ∙ not-false (c .before .before .before .before .before .has-room .result) (c .before .before .before .before .if1 .left)) in
     (simp yes (c .before .before .copy .ensures .to), simp yes (c .before .before .copy .ensures .bytes))

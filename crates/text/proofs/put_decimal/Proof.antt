@@ -6,7 +6,7 @@ use borrow.Author.Tests.{not-true, not-false, leb-true}
 use lib.ListN.{length}
 use Prim.Native.Nat.{_+_}
 use borrow.Author.Needs.{needs}
-use Rattle.text.specs.Text.{fits, spliced, reached}
+use Rattle.text.specs.Text.{fits, spliced, endOf}
 use Rattle.text.specs.Decimal.{decimal}
 use Rattle.text.proofs.put_decimal.Statement.{statement}
 use Rattle.text.proofs.put_decimal.Tie as tie
@@ -18,7 +18,7 @@ has-room-requires : tie.Need-has-room-requires
 has-room-requires c κs = search needs
 
 returns : tie.Need-returns
-unfolding spliced reached
+unfolding spliced endOf
 returns c =
     let no : fits (length (c .before .before .before .before .args .text .now)) (c .before .before .before .before .args .at) (length (decimal (c .before .before .before .before .args .n))) ≡ false = ap (fits (length (c .before .before .before .before .args .text .now)) (c .before .before .before .before .args .at)) (sym (c .before .before .width .ensures)) ∙ (sym (c .before .has-room .ensures) ∙ not-true (c .before .has-room .result) (c .if1 .taken)) in
     (simp no, simp no)
@@ -31,7 +31,7 @@ same-length : tie.Need-same-length
 same-length c = search needs
 
 returns-2 : tie.Need-returns-2
-unfolding spliced reached
+unfolding spliced endOf
 returns-2 c =
     let yes : fits (length (c .before .before .before .before .before .before .before .before .args .text .now)) (c .before .before .before .before .before .before .before .before .args .at) (length (decimal (c .before .before .before .before .before .before .before .before .args .n))) ≡ true = ap (fits (length (c .before .before .before .before .before .before .before .before .args .text .now)) (c .before .before .before .before .before .before .before .before .args .at)) (sym (c .before .before .before .before .before .before .width .ensures)) ∙ (sym (c .before .before .before .before .before .has-room .ensures) ∙ not-false (c .before .before .before .before .before .has-room .result) (c .before .before .before .before .if1 .left)) in
     (simp yes (c .before .before .digits .ensures .to), simp yes (c .before .before .digits .ensures .bytes))
