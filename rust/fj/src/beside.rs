@@ -8,6 +8,7 @@ use crate::rehearsal::{records, transcript, Line, Verdict};
 use crate::standing;
 use crate::words::words;
 use fjadrimor::{Event, Run};
+use std::fmt::Display;
 
 /// A journal's rehearsal.
 pub struct Rehearsal {
@@ -94,10 +95,13 @@ fn event(line: &Line, why: &str) -> String {
 /// What stands beside the first line and the last.
 fn around(line: &str) -> String {
     match *line.split_whitespace().collect::<Vec<_>>() {
-        ["end", events, messages] => {
-            format!("events accepted: {events}, messages written: {messages}")
-        }
+        ["end", events, messages] => counts(events, messages),
         ["refused", ground] => ground.parse().map(sentence).unwrap_or_default().to_string(),
         _ => String::new(),
     }
+}
+
+/// How many events were accepted, and how many messages they wrote.
+pub fn counts(events: impl Display, messages: impl Display) -> String {
+    format!("events accepted: {events}, messages written: {messages}")
 }

@@ -1,5 +1,6 @@
 //! `fj next`: the events that the library would accept now, in notation.
 
+use crate::standing::letters;
 use crate::words::words;
 use fjadrimor::{Event, Kind, Outcome, Run, Step, Vote};
 
@@ -25,14 +26,7 @@ fn outcome(run: &Run, event: Event) -> Option<String> {
         Outcome::Taken => "taken",
         Outcome::Passed => "passed",
     };
-    let letters: String = (1..=run.n()).filter_map(|site| letter(&run, site)).collect();
-    Some(format!("{word} {letters}"))
-}
-
-/// The letter of a site's state, in upper case once it has stopped.
-fn letter(run: &Run, site: u8) -> Option<char> {
-    let letter = run.site(site)?.state().letter();
-    Some(if run.stopped().contains(site) { letter.to_ascii_uppercase() } else { letter })
+    Some(format!("{word} {}", letters(&run)))
 }
 
 /// Every event that is worth asking about: the steps of all sites, their stops, and a stop inside

@@ -1,4 +1,5 @@
-//! How a run stands: what is outstanding, and whom each running site waits for that has not decided.
+//! How a run stands: its sites' letters, what is outstanding, and whom each running site waits for
+//! that has not decided.
 
 use crate::waits::{awaited, no_notice, numbers, unnoticed};
 use fjadrimor::{Event, Kind, Run, Site, Sites, Step};
@@ -23,6 +24,16 @@ pub fn lines(run: &Run) -> Vec<String> {
         None => vec![format!("{outstanding}; {end}")],
         Some(_) => vec![outstanding, end.to_string()],
     }
+}
+
+/// The letter of each site's state, in upper case once it has stopped.
+pub fn letters(run: &Run) -> String {
+    let sites = (1..=run.n()).filter_map(|number| run.site(number));
+    let letter = |site: Site| match is_stopped(run, site.number()) {
+        true => site.state().letter().to_ascii_uppercase(),
+        false => site.state().letter(),
+    };
+    sites.map(letter).collect()
 }
 
 fn is_stopped(run: &Run, site: u8) -> bool {
