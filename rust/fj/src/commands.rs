@@ -2,14 +2,16 @@
 
 use crate::arguments::Arguments;
 use crate::beside::Rehearsal;
+use crate::day::HandedOver;
 use crate::input::LIMIT;
 use crate::journal::Journal;
 use crate::notation::{no_number_of_sites, show, FULL};
 use crate::{bad_input, bad_usage, chart, next, written};
 
 /// The commands, and the options that each has.
-const COMMANDS: [(&str, &[&str]); 5] = [
+const COMMANDS: [(&str, &[&str]); 6] = [
     ("rehearse", &["--bytes", "--plain", "--strict"]),
+    ("day", &["--bytes", "--plain"]),
     ("next", &["--bytes"]),
     ("chart", &["--bytes"]),
     ("assemble", &["--bytes"]),
@@ -40,6 +42,10 @@ pub fn run(command: &str, arguments: &Arguments) -> Option<u8> {
 type Answer = (Vec<u8>, Option<String>);
 
 fn answer(command: &str, arguments: &Arguments, journal: &Journal) -> Result<Answer, String> {
+    if let Some(day) = (command == "day").then(|| HandedOver::new(journal)).flatten() {
+        let output = if arguments.has("--plain") { day.numbers() } else { day.text() };
+        return Ok((output.into_bytes(), day.trouble()));
+    }
     let rehearsal = Rehearsal::new(&journal.bytes, journal.is_longer)?;
     let mut undrawn = None;
     let output = match (command, &rehearsal.run) {
@@ -47,7 +53,7 @@ fn answer(command: &str, arguments: &Arguments, journal: &Journal) -> Result<Ans
         ("show", _) => show(&journal.bytes, journal.is_longer).into_bytes(),
         ("rehearse", _) if arguments.has("--plain") => rehearsal.transcript.clone().into_bytes(),
         ("rehearse", _) => rehearsal.text().into_bytes(),
-        // Without a run there is nothing to draw, and nothing can happen next.
+        // Without a run there is nothing to draw or to hand over to, and nothing can happen next.
         (_, None) => Vec::new(),
         ("next", Some(run)) => next::list(run).into_bytes(),
         _ => match chart::chart(&journal.bytes, journal.title()) {

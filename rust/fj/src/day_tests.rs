@@ -1,36 +1,43 @@
 //! The scenarios as journals of a day: handed over in one call, each ends at the first record that its
-//! rehearsal refuses or cannot read.
+//! rehearsal refuses or cannot read, and `fj day` has the rehearsal's words for it.
 
 use crate::beside::Rehearsal;
+use crate::day::HandedOver;
+use crate::journal::Journal;
 use crate::notation::{assemble, start};
 use fjadrimor::{Day, Refusal, Run};
+use std::path::PathBuf;
 
 const SCENARIOS: &str = concat!(env!("CARGO_MANIFEST_DIR"), "/../../scenarios");
+
+/// The scenarios' journals in notation.
+fn files() -> impl Iterator<Item = PathBuf> {
+    let files = std::fs::read_dir(SCENARIOS).expect("the scenarios are there");
+    let files = files.map(|file| file.expect("it can be listed").path());
+    files.filter(|file| file.extension().is_some_and(|end| end == "journal"))
+}
 
 /// The bytes of a journal in notation, by the file's path.
 fn assembled(path: &std::path::Path) -> Vec<u8> {
     assemble(&std::fs::read_to_string(path).expect("text")).expect("a journal")
 }
 
-/// The first record that is refused or bad, by its place from 1 on, with the ground.
-fn first_refused(rehearsal: &Rehearsal) -> Option<(usize, u8)> {
-    let grounds = rehearsal.refused().chain(rehearsal.bad());
-    grounds.map(|(place, ground, _)| (place, ground)).min()
+/// The first record that is refused or bad, by its place from 1 on, with the ground and why.
+fn first_refused(rehearsal: &Rehearsal) -> Option<(usize, u8, &str)> {
+    rehearsal.refused().chain(rehearsal.bad()).min()
 }
 
 #[test]
 fn a_day_ends_at_the_first_record_that_is_refused() {
-    let files = std::fs::read_dir(SCENARIOS).expect("the scenarios are there");
-    let files = files.map(|file| file.expect("it can be listed").path());
     let mut whole = 0;
-    for file in files.filter(|file| file.extension().is_some_and(|end| end == "journal")) {
+    for file in files() {
         let journal = assembled(&file);
         let Ok(mut run) = Run::fresh(journal[0]) else { continue };
         let day = run.journal(&journal[1..]);
         let rehearsal = Rehearsal::new(&journal, false).expect("a rehearsal");
         let refused = first_refused(&rehearsal);
-        let place = refused.map_or(journal.len(), |(place, _)| start(place)) - 1;
-        let ground = refused.map(|(_, ground)| ground);
+        let place = refused.map_or(journal.len(), |(place, ..)| start(place)) - 1;
+        let ground = refused.map(|(_, ground, _)| ground);
         assert_eq!((day.place, day.refusal.map(Refusal::number)), (place, ground), "{file:?}");
         if refused.is_none() {
             assert_eq!(rehearsal.run, Some(run), "{file:?}");
@@ -38,6 +45,22 @@ fn a_day_ends_at_the_first_record_that_is_refused() {
         }
     }
     assert!(whole > 10, "{whole} scenarios have no refused record");
+}
+
+#[test]
+fn the_refused_record_is_told_as_in_the_rehearsal() {
+    let mut count = 0;
+    for file in files() {
+        let journal = Journal::read(file.as_os_str(), false).expect("a journal");
+        let Some(day) = HandedOver::new(&journal) else { continue };
+        let rehearsal = Rehearsal::new(&journal.bytes, journal.is_longer).expect("a rehearsal");
+        let told = first_refused(&rehearsal).map(|(place, ground, why)| {
+            journal.of_record(place, &format!("refused {ground}: {why}"))
+        });
+        assert_eq!(day.trouble(), told, "{file:?}");
+        count += usize::from(told.is_some());
+    }
+    assert!(count > 4, "{count} scenarios have a refused record");
 }
 
 /// The answer that the scenario tells of, and how operations go on.

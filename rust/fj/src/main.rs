@@ -5,6 +5,7 @@ mod arguments;
 mod beside;
 mod chart;
 mod commands;
+mod day;
 #[cfg(test)]
 mod day_tests;
 mod grounds;

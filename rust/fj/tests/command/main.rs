@@ -1,5 +1,6 @@
 //! `fj` as an operator uses it: what it prints, what it says is wrong, and its exit status.
 
+mod day;
 mod files;
 mod journals;
 mod sheets;

@@ -29,7 +29,7 @@ fn help_is_given_wherever_it_is_asked_for() {
 #[test]
 fn the_help_names_every_command_and_option() {
     let (_, help, _) = fj(&["--help"], b"");
-    for word in ["rehearse", "next", "chart", "assemble", "show", "judge", "sheet"] {
+    for word in ["rehearse", "day", "next", "chart", "assemble", "show", "judge", "sheet"] {
         assert!(help.contains(&format!(" fj {word} ")), "{word}");
     }
     for word in ["--plain", "--strict", "--bytes", "--version", " -- ", "65,536", "7,281"] {
@@ -58,6 +58,7 @@ fn what_is_no_command_is_named() {
         ("--plain", "--plain comes with a command; fj --help tells how to use it"),
         ("rehearse", "rehearse takes one file; fj --help tells how to use it"),
         ("chart a b", "chart takes one file; fj --help tells how to use it"),
+        ("day --strict -", "day has no option --strict; fj --help tells how to use it"),
         ("next --plain -", "next has no option --plain; fj --help tells how to use it"),
         ("rehearse -p -", "rehearse has no option -p; fj --help tells how to use it"),
         ("judge", "judge takes one file; fj sheet --help tells how to use it"),
