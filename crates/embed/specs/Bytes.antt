@@ -34,5 +34,6 @@ bytesAfter Taken old new = new
 bytesAfter Passed old new = new
 bytesAfter (Refused g) old new = old
 
+-- what such a call returns and leaves: the outcome's number, the record's bytes, the answer
 abbrev pub called : Outcome → List ℕ → List ℕ → List ℕ → LeftBoth
 called o old new answer = leavesBoth (numberOf o) (bytesAfter o old new) answer
