@@ -5,3 +5,4 @@ pub mod RunCalls
 pub mod DayCall
 pub mod RecordCalls
 pub mod SheetCalls
+pub mod SheetTrip

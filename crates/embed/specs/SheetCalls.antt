@@ -1,15 +1,20 @@
--- `fj_sheet_judge`: what it returns, and what it leaves of the words and of the room. (`fj_sheet_report` is report's own.)
+-- The calls on sheets: what they return, and what they leave of the words and of the room. (`fj_sheet_report` is report's own.)
 -- Assumes nothing.
 use Prim.Native.Nat.{ℕ, _/_, _%_, _≤_, _<_}
-use mathlib.Core.Bool.{Bool, true, false}
+use mathlib.Core.Bool.{Bool, true, false, cond}
 use mathlib.Core.List.{List, [], _∷_, _++_, flatMap}
 use mathlib.Core.Path.{_≡_, refl, sym, ap, _∙_}
 use native.Mathlib.Omega.{arith}
+use lib.Dec.{eqb, ltb}
 use lib.ListN.{length, drop, replicate}
+use Rattle.sheet.specs.Grounds.{sheetGround, sheetOf}
+use Rattle.sheet.specs.Write.{writeOf}
+use Rattle.sheet.specs.Parts.{partsSize, partsFrom, partsPut}
 use Rattle.judge.specs.declared.Local.{Local}
 use Rattle.judge.specs.declared.Verdict.{Verdict}
 use Rattle.judge.specs.Outcome.{refusedBy, Outcome}
 use Rattle.judge.proofs.OutcomeLaws.{Same, one-outcome}
+use Rattle.embed.specs.Bytes.{Left, leaves}
 
 -- ---- a verdict as bytes
 
@@ -44,7 +49,7 @@ pub refused-bytes : (g : ℕ) → verdictBytes (refusedBy g) ≡ replicate 206 0
 unfolding verdictBytes headBytes localBytes flatMap
 refused-bytes g = refl
 
--- ---- the call
+-- ---- the verdict
 
 -- 15 comes first, with nothing touched; then the judge's own outcome, with its verdict in the first 206 bytes
 pub data JudgeCall (sheet w₀ w out₀ out : List ℕ) (r : ℕ) : Type 0 where
@@ -70,3 +75,15 @@ one-call s w₀ w w′ o₀ o o′ r r′ (judged l v x e b) (judged m v′ x′
       room = b ∙ ap (λ (y : Verdict). verdictBytes y ++ drop 206 o₀) (same .verdicts) ∙ sym b′;
       returned = e ∙ ap (λ (y : Verdict). y .refusal) (same .verdicts) ∙ sym e′;
     }
+
+-- ---- the parts
+
+-- `fj_sheet_parts`: 15 comes first, then the reader's grounds; else the parts in the first 810 bytes
+unfoldable pub partsCall : List ℕ → List ℕ → Left
+partsCall sheet room =
+    cond (ltb (length room) partsSize) (leaves 15 room)
+    (cond (eqb (sheetGround sheet) 0) (leaves 0 (partsPut (sheetOf sheet) room)) (leaves (sheetGround sheet) room))
+
+-- `fj_sheet_write`: the writer's answer on the sheet that the bytes tell; bytes that tell none have no sites, which is 23
+unfoldable pub writeCall : List ℕ → List ℕ → Left
+writeCall parts room = leaves (writeOf (partsFrom parts) room .0 .refusal) (writeOf (partsFrom parts) room .1)

@@ -1,4 +1,4 @@
-// Protocol sheets on bytes: the judge's verdict, and the report.
+// Protocol sheets on bytes: the judge's verdict, the report, and a sheet's parts, read and written.
 
 ghost use mathlib.Core.Path.{_≡_};
 ghost use mathlib.Core.List.{_++_, flatMap};
@@ -6,7 +6,8 @@ ghost use Prim.Native.Nat.{_+_, _≤_, _%_};
 ghost use lib.ListN.{length, drop, replicate};
 ghost use Rattle.text.specs.Text.{Put};
 ghost use Rattle.report.specs.Report.{Reported};
-ghost use Rattle.embed.specs.SheetCalls.{flagOf, flagsOf, localBytes, headBytes, verdictBytes, JudgeCall};
+ghost use Rattle.embed.specs.Bytes.{leaves};
+ghost use Rattle.embed.specs.SheetCalls.{flagOf, flagsOf, localBytes, headBytes, verdictBytes, JudgeCall, partsCall, writeCall};
 use judge::Local;
 use judge::Verdict;
 
@@ -135,4 +136,31 @@ pub extern "C" fn fj_sheet_report(sheet: &[u8], words: &mut [u64], text: &mut [u
     ensures { λ r. ⌜ Reported (now (sheet .entry)) (now (words .entry)) (now (words .exit)) (now (text .entry)) (now (text .exit)) r ⌝ }
 {
     report::report(sheet, words, text)
+}
+
+// The parts of a sheet as bytes, for whoever edits them. Returns 0 or the refusal.
+#[no_mangle]
+pub extern "C" fn fj_sheet_parts(bytes: &[u8], parts: &mut [u8]) -> u8
+    ensures { λ r. ⌜ leaves r (now (parts .exit)) ≡ partsCall (now (bytes .entry)) (now (parts .entry)) ⌝ }
+{
+    if parts.len() < sheet::PARTS {
+        return 15;
+    }
+    let ground = sheet::ground(bytes);
+    if ground != 0 {
+        return ground;
+    }
+    let read = sheet::parts(bytes);
+    sheet::put_parts(read, parts);
+    0
+}
+
+// The record of a sheet's parts, at the front of the room. Returns 0 or the refusal.
+#[no_mangle]
+pub extern "C" fn fj_sheet_write(parts: &[u8], room: &mut [u8]) -> u8
+    ensures { λ r. ⌜ leaves r (now (room .exit)) ≡ writeCall (now (parts .entry)) (now (room .entry)) ⌝ }
+{
+    let told = sheet::from_parts(parts);
+    let written = sheet::write(told, room);
+    written.refusal
 }

@@ -22,11 +22,11 @@ use Rattle.sheet.specs.declared.Transition.{Transition}
 use Rattle.sheet.specs.declared.Sheet.{Sheet}
 
 -- a number that is not outside its range is in it
-record Among (least most x : ℕ) : Type 0 where
+pub record Among (least most x : ℕ) : Type 0 where
   pub low : least ≤ x
   pub high : x ≤ most
 
-among : (least most x : ℕ) → outside least most x ≡ false → Among least most x
+pub among : (least most x : ℕ) → outside least most x ≡ false → Among least most x
 unfolding outside
 among least most x e =
     let n = or-neither _ _ e in
@@ -145,13 +145,15 @@ module _ (l : List ℕ) (f : Framed l) where
   pub moves-few : movesOf l (sitesOf l) (stateCounts l) ≤ 64
   moves-few = ltb-false _ _ (or-neither (leb (length l) (movesAt (sitesOf l) (stateCounts l))) _ (measured .0) .1)
 
-  pub whole : length l ≡ movesAt (sitesOf l) (stateCounts l) + 1 + 12 * movesOf l (sitesOf l) (stateCounts l)
+  pub framed-size : length l ≡ 2 + sizeOf l
   unfolding misframed
-  whole =
+  framed-size =
       let a = or-neither (ltb (length l) 2 || not (eqb (length l) (2 + sizeOf l))) (eqb (sizeOf l) 0) (f .framed) in
       let b = or-neither (ltb (length l) 2) (not (eqb (length l) (2 + sizeOf l))) (a .0) in
-      let long : length l ≡ 2 + sizeOf l = eqb-true (length l) (2 + sizeOf l) (not-false _ (b .1)) in
-      omega (arith, long, measured .1)
+      eqb-true (length l) (2 + sizeOf l) (not-false _ (b .1))
+
+  pub whole : length l ≡ movesAt (sitesOf l) (stateCounts l) + 1 + 12 * movesOf l (sitesOf l) (stateCounts l)
+  whole = omega (arith, framed-size, measured .1)
 
   sites-among : Among 2 4 (sitesOf l)
   unfolding miscounted

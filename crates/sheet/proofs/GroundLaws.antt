@@ -33,11 +33,11 @@ pub record Passes (l : List ℕ) : Type 0 where
   pub parts : Ordered (partsOf l)
 
 -- a ground with another number than the first one's does not hold
-record Past (b : Bool) (x g : ℕ) : Type 0 where
+pub record Past (b : Bool) (x g : ℕ) : Type 0 where
   pub absent : b ≡ false
   pub rest : x ≡ g
 
-past : (b : Bool) (n x g : ℕ) → n ≢ g → cond b n x ≡ g → Past b x g
+pub past : (b : Bool) (n x g : ℕ) → n ≢ g → cond b n x ≡ g → Past b x g
 past true n x g d e = absurd (d e)
 past false n x g d e = record { absent = refl; rest = e }
 
@@ -66,7 +66,7 @@ module _ (g : ℕ) (other : (n : ℕ) → 21 ≤ n → n ≤ 28 → n ≢ g) whe
 pub framed : (l : List ℕ) → frameGround l ≡ 0 → Framed l
 framed l e = frame-past 0 (λ n a b. omega arith) l e .0
 
-frame-none : {l : List ℕ} → Framed l → frameGround l ≡ 0
+pub frame-none : {l : List ℕ} → Framed l → frameGround l ≡ 0
 unfolding frameGround
 frame-none {l} f = simp (f .framed, f .versioned, f .counted, f .measured)
 

@@ -1,14 +1,14 @@
 -- Laws of someBelow, sumBelow and table: what a search loop and a filling loop have at each turn and at their end.
 -- Assumes nothing.
 use Prim.Native.Nat.{ℕ, zero, suc, _+_, _≤_, _<_}
-use mathlib.Core.Bool.{Bool, true, false, _&&_, _||_, false≢true, or-true}
+use mathlib.Core.Bool.{Bool, true, false, _&&_, _||_, false≢true, or-true, or-false}
 use mathlib.Core.List.{List, [], _∷_, _++_}
 use mathlib.Core.Path.{_≡_, refl, sym, ap, ap₂, _∙_}
 use native.Mathlib.Decide.{ℕ-discrete, decLt}
 use native.Mathlib.Numerals.{add-one}
 use native.Mathlib.Omega.{arith}
-use lib.ListN.{length, getD, set, length-set, length-append, List·getD-append}
-use lib.Seq.{getD-set-same, getD-set-other, getD-at, ext-getD}
+use lib.ListN.{length, getD, set, take, length-set, length-append, List·getD-append}
+use lib.Seq.{getD-set-same, getD-set-other, getD-at, ext-getD, take-all, take-append-le}
 use Rattle.sheet.specs.Index.{someBelow, sumBelow, table}
 
 or-left : (a b : Bool) → a ≡ true → (a || b) ≡ true
@@ -41,6 +41,12 @@ none-at f n k e h = go (f k) refl
     go : (b : Bool) → f k ≡ b → f k ≡ false
     go false p = p
     go true p = absurd (false≢true (sym e ∙ some-found f n k h p))
+
+-- where none passes, nothing is found
+pub none-found : (f : ℕ → Bool) (n : ℕ) → ((k : ℕ) → k < n → f k ≡ false) → someBelow f n ≡ false
+unfolding someBelow
+none-found f zero h = refl
+none-found f (suc n) h = ap₂ (λ (a b : Bool). a || b) (none-found f n (λ k b. h k (omega arith))) (h n (omega arith))
 
 -- a number below n that passes
 pub record Found (f : ℕ → Bool) (n : ℕ) : Type 0 where
@@ -84,9 +90,33 @@ some-same f g zero h = refl
 some-same f g (suc n) h =
     ap₂ (λ (a b : Bool). a || b) (some-same f g n (λ k l. h k (omega arith))) (h n (omega arith))
 
+-- a search that goes on finds no more where the rest does not pass
+pub some-fewer : (f g : ℕ → Bool) (n m : ℕ) → n ≤ m → ((k : ℕ) → k < n → f k ≡ g k) → ((k : ℕ) → n ≤ k → k < m → g k ≡ false)
+    → someBelow f n ≡ someBelow g m
+unfolding someBelow
+some-fewer f g n zero h same none = ap (someBelow f) (let e : n ≡ 0 = omega arith in e)
+some-fewer f g n (suc m) h same none = go (some-fewer f g n m) (decLt m n)
+  where
+    go : (n ≤ m → ((k : ℕ) → k < n → f k ≡ g k) → ((k : ℕ) → n ≤ k → k < m → g k ≡ false) → someBelow f n ≡ someBelow g m)
+        → Dec (m < n) → someBelow f n ≡ (someBelow g m || g m)
+    go before (yes l) = ap (someBelow f) (let e : n ≡ suc m = omega arith in e) ∙ some-same f g (suc m) (λ k b. same k (omega arith))
+    go before (no l) =
+        before (omega arith) same (λ k a b. none k a (omega arith))
+        ∙ sym (ap (λ (b : Bool). someBelow g m || b) (none m (omega arith) (omega arith)) ∙ or-false (someBelow g m))
+
 pub sum-none : (f : ℕ → ℕ) → sumBelow f 0 ≡ 0
 unfolding sumBelow
 sum-none f = refl
+
+-- a sum below a number is within the sum below a larger one
+pub sum-within : (f : ℕ → ℕ) (i n : ℕ) → i < n → sumBelow f i + f i ≤ sumBelow f n
+unfolding sumBelow
+sum-within f i zero h = absurd (omega arith)
+sum-within f i (suc n) h = go (sum-within f i n) (ℕ-discrete i n)
+  where
+    go : (i < n → sumBelow f i + f i ≤ sumBelow f n) → Dec (i ≡ n) → sumBelow f i + f i ≤ sumBelow f n + f n
+    go before (yes e) = omega (arith, ap (sumBelow f) e, ap f e)
+    go before (no d) = omega (arith, before (omega arith))
 
 pub sum-more : (f : ℕ → ℕ) (n : ℕ) → sumBelow f (n + 1) ≡ sumBelow f n + f n
 unfolding sumBelow
@@ -97,6 +127,25 @@ module _ {A : Type 0} where
   unfolding table
   length-table f zero = refl
   length-table f (suc n) = length-append (table f n) (f n ∷ []) ∙ omega (arith, length-table f n)
+
+  pub table-same : (f g : ℕ → A) (n : ℕ) → ((k : ℕ) → k < n → f k ≡ g k) → table f n ≡ table g n
+  unfolding table
+  table-same f g zero h = refl
+  table-same f g (suc n) h =
+      ap₂ (λ (x : List A) (y : A). x ++ (y ∷ [])) (table-same f g n (λ k b. h k (omega arith))) (h n (omega arith))
+
+  pub table-take : (f : ℕ → A) (n m : ℕ) → m ≤ n → take m (table f n) ≡ table f m
+  unfolding table
+  table-take f zero m h = none m (omega arith)
+    where
+      none : (m : ℕ) → m ≡ 0 → take m (table f zero) ≡ table f m
+      none m e = ap (λ (k : ℕ). take k []) e ∙ ap (table f) (sym e)
+  table-take f (suc n) m h = go (table-take f n m) (ℕ-discrete m (suc n))
+    where
+      go : (m ≤ n → take m (table f n) ≡ table f m) → Dec (m ≡ suc n) → take m (table f n ++ (f n ∷ [])) ≡ table f m
+      go before (yes q) = take-all m (table f n ++ (f n ∷ [])) (omega (arith, q, length-append (table f n) (f n ∷ []), length-table f n)) ∙ ap (table f) (sym q)
+      go before (no q) =
+          take-append-le m (table f n) (f n ∷ []) (omega (arith, length-table f n)) ∙ before (omega arith)
 
   pub table-at : (f : ℕ → A) (n k : ℕ) (d : A) → k < n → getD (table f n) k d ≡ f k
   unfolding table

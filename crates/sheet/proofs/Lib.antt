@@ -10,3 +10,10 @@ pub mod Arrows
 pub mod Faults
 pub mod Marks
 pub mod Readers
+-- What is written is read back, and what is read is written again.
+pub mod Pieces
+pub mod WriteLaws
+pub mod Elements
+pub mod PartsLaws
+pub mod ReadBack
+pub mod RoundTrips

@@ -5,3 +5,6 @@ pub mod Paths
 pub mod Grounds
 pub mod Faults
 pub mod Fine
+pub mod Write
+pub mod RoundTrip
+pub mod Parts

@@ -1,14 +1,21 @@
-// Protocol sheets (01, "Protocol sheets"): the record, its parts, and the reader with grounds 21 to 29.
-// The reader knows nothing of what a sheet is judged by. The grounds from 25 on are stated over the parts alone.
+// Protocol sheets (01, "Protocol sheets"): the record, its parts, the reader with grounds 21 to 29, and the writer with 23 to 29 and 32.
+// Neither knows anything of what a sheet is judged by. The grounds from 25 on are stated over the parts alone, and are the same for both.
 ghost use mathlib.Core.Path.{_≡_};
 ghost use Rattle.sheet.specs.Record.{noTransition, noSheet};
 ghost use Rattle.sheet.specs.Grounds.{sheetGround, sheetOf};
 ghost use Rattle.sheet.specs.Fine.{Fine};
+ghost use Rattle.sheet.specs.Write.{writeOf};
+ghost use Rattle.sheet.specs.Parts.{partsFrom, partsPut};
 
 mod record; // record.rt: the parts of a record
 mod frame; // frame.rt: grounds 21 to 24, about the bytes
 mod grounds; // grounds.rt: grounds 25 to 29, about the parts
 mod cycle; // cycle.rt: the search for a cycle
+mod writer; // writer.rt: the writer's grounds, and the record of parts
+mod parts_bytes; // parts_bytes.rt: the parts as 810 bytes
+
+// The parts of a sheet take so many bytes: see specs/Parts.antt.
+pub const PARTS: usize = 810;
 
 // A transition of one site (01, "Protocol sheets"): sets of messages are masks, message m at weight 2^m.
 pub struct Transition {
@@ -52,6 +59,57 @@ pub fn parts(bytes: &[u8]) -> Sheet
         return no_sheet();
     }
     record::parts(bytes)
+}
+
+// What the writer answers: the refusal, or 0 and the length of the record.
+pub struct Written {
+    pub refusal: u8,
+    pub length: usize,
+}
+
+// Writes the record of a sheet's parts at the front of a room. Refused, with 23 to 29 or 32, it leaves the room as it is.
+pub fn write(sheet: Sheet, room: &mut [u8]) -> Written
+    ensures { λ r. ⌜ (r ≡ writeOf sheet (now (room .entry)) .0) × (now (room .exit) ≡ writeOf sheet (now (room .entry)) .1) ⌝ }
+{
+    let ground = writer::write_ground(sheet);
+    if ground != 0 {
+        return Written {
+            refusal: ground,
+            length: 0,
+        };
+    }
+    let size = writer::size_of(sheet);
+    if room.len() < size {
+        return Written {
+            refusal: 32,
+            length: 0,
+        };
+    }
+    writer::put_record(room, sheet, size);
+    Written {
+        refusal: 0,
+        length: size,
+    }
+}
+
+// The sheet whose parts 810 bytes are; no sheet where there are more or fewer.
+pub fn from_parts(bytes: &[u8]) -> Sheet
+    ensures { λ r. ⌜ r ≡ partsFrom (now (bytes .entry)) ⌝ }
+{
+    if bytes.len() != PARTS {
+        return no_sheet();
+    }
+    parts_bytes::sheet_from(bytes)
+}
+
+// Puts the parts of a sheet as bytes at the front of a room; one with fewer than 810 bytes stays as it is.
+pub fn put_parts(sheet: Sheet, room: &mut [u8])
+    ensures { λ _. ⌜ now (room .exit) ≡ partsPut sheet (now (room .entry)) ⌝ }
+{
+    if room.len() < PARTS {
+        return;
+    }
+    parts_bytes::put_all(room, sheet);
 }
 
 // No sheet: all parts zero.

@@ -30,7 +30,7 @@ pub(crate) fn pair_at(bytes: &[u8], at: usize) -> u32
 }
 
 // Four bytes that are there, big-endian.
-fn word_at(bytes: &[u8], at: usize) -> u32
+pub(crate) fn word_at(bytes: &[u8], at: usize) -> u32
     requires { ⌜ (at < 2 ^ 20) × (at + 4 ≤ length (now bytes)) ⌝ }
     ensures { λ r. ⌜ r ≡ fourAt (now (bytes .entry)) at ⌝ }
 {
@@ -72,7 +72,7 @@ pub(crate) fn count_in(counts: [u8; 4], i: usize) -> u8
 }
 
 // The states of all sites.
-fn states_of(counts: [u8; 4]) -> usize
+pub(crate) fn states_of(counts: [u8; 4]) -> usize
     ensures { λ r. ⌜ (r ≡ statesBefore counts 4) × (r ≤ 1020) ⌝ }
 {
     let mut states: usize = 0;
@@ -148,7 +148,7 @@ fn transition_from(bytes: &[u8], at: usize) -> Transition
 }
 
 // The transitions at the 64 places: `moves` of them, the first at a place of the record, and then none.
-fn transitions_of(bytes: &[u8], start: usize, moves: usize) -> [Transition; 64]
+pub(crate) fn transitions_of(bytes: &[u8], start: usize, moves: usize) -> [Transition; 64]
     requires { ⌜ (start < 2 ^ 11) × (moves ≤ 64) × (start + 12 * moves ≤ length (now bytes)) ⌝ }
     ensures { λ r. ⌜ r ≡ table (transitionIn (now (bytes .entry)) start moves) 64 ⌝ }
 {
