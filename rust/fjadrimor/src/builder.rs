@@ -27,7 +27,7 @@ const MESSAGES: usize = 32;
 /// protocol.transition(slave, "w", "a").reads(&["abort"]);
 /// protocol.transition(slave, "w", "c").reads(&["commit"]);
 ///
-/// let sheet = protocol.sheet()?;
+/// let sheet = protocol.build()?;
 /// let verdict = Verdict::Blocking { site: slave, state: 1, condition: 1 };
 /// assert_eq!(sheet.judge()?.verdict, verdict);
 /// assert_eq!(sheet.write()?[..2], [0, 113]);
@@ -95,7 +95,7 @@ impl SheetBuilder {
 
     /// The sheet, or the first name that does not fit. Whether the sheet keeps the rules is said
     /// where it is written or judged.
-    pub fn sheet(self) -> Result<Sheet, Misnamed> {
+    pub fn build(self) -> Result<Sheet, Misnamed> {
         match self.misnamed {
             Some(misnamed) => Err(misnamed),
             None => Ok(self.sheet),

@@ -168,7 +168,7 @@ fn built(more: impl FnOnce(&mut SheetBuilder)) -> Result<Sheet, Misnamed> {
     protocol.transition(one, "q", "c").reads(&["go"]).writes(&["done"]).votes_yes();
     protocol.transition(two, "q", "c").reads(&["done"]).votes_yes();
     more(&mut protocol);
-    protocol.sheet()
+    protocol.build()
 }
 
 #[test]
