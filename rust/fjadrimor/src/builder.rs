@@ -28,9 +28,10 @@ const MESSAGES: usize = 32;
 /// protocol.transition(slave, "w", "c").reads(&["commit"]);
 ///
 /// let sheet = protocol.build()?;
+/// let record = sheet.write()?;
+/// assert_eq!(record[..2], [0, 113]);
 /// let verdict = Verdict::Blocking { site: slave, state: 1, condition: 1 };
 /// assert_eq!(sheet.judge()?.verdict, verdict);
-/// assert_eq!(sheet.write()?[..2], [0, 113]);
 /// # Ok::<(), Box<dyn std::error::Error>>(())
 /// ```
 #[derive(Clone, Debug, Default)]

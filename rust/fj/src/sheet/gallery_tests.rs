@@ -129,3 +129,16 @@ fn the_page_shows_the_refusals_of_the_sheet_that_it_shows() {
         assert!(PAGE.contains(&format!("```\n{lines}```\n")), "{lines}");
     }
 }
+
+/// What the page builds in Rust stands in the builder's own documentation, which is run.
+#[test]
+fn the_page_shows_the_builder_as_its_documentation_does() {
+    let documented = include_str!("../../../fjadrimor/src/builder.rs");
+    let shown = PAGE.split("```rust\n").nth(1).and_then(|rest| rest.split("```").next());
+    let lines: String = shown
+        .expect("a listing")
+        .lines()
+        .map(|line| format!("/// {line}").trim_end().to_string() + "\n")
+        .collect();
+    assert!(documented.contains(&lines), "{lines}");
+}
