@@ -6,12 +6,9 @@ use crate::side::Side;
 use compare::inputs::drafts::{product, Draft};
 use compare::inputs::parts::{parts_of, stray, PARTS};
 use compare::inputs::{faults, figures, Random};
-use compare::parts::{Writing, LONGEST};
+use compare::parts::{Fill, Writing, LONGEST};
 use compare::sheet::faulty;
 use std::hint::black_box;
-
-/// A call that takes bytes and fills a room.
-type Fill = fn(&[u8], &mut [u8]) -> u8;
 
 fn fill_all(fill: Fill, given: &[Vec<u8>], room: &mut [u8]) {
     let fill = black_box(fill);

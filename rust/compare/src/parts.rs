@@ -7,11 +7,14 @@ use crate::sheet::known;
 use crate::tally::Tally;
 use std::collections::BTreeMap;
 
+/// A call that takes bytes and fills a room.
+pub type Fill = fn(&[u8], &mut [u8]) -> u8;
+
 /// A program's `fj_sheet_parts` and `fj_sheet_write`.
 #[derive(Clone, Copy)]
 pub struct Writing {
-    pub parts: fn(&[u8], &mut [u8]) -> u8,
-    pub write: fn(&[u8], &mut [u8]) -> u8,
+    pub parts: Fill,
+    pub write: Fill,
 }
 
 /// The bytes of the longest record.
@@ -24,7 +27,7 @@ const WRITER: [u8; 9] = [0, 23, 24, 25, 26, 27, 28, 29, 32];
 type After = (u8, Vec<u8>);
 
 /// A call with a room of this length.
-fn made(call: fn(&[u8], &mut [u8]) -> u8, given: &[u8], room: usize) -> After {
+fn made(call: Fill, given: &[u8], room: usize) -> After {
     let mut room = pattern(room);
     (call(given, &mut room), room)
 }

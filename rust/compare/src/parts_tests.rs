@@ -1,6 +1,6 @@
 //! Wrong readers and writers of sheets, which must be caught.
 
-use crate::parts::{compare, Writing};
+use crate::parts::{compare, Fill, Writing};
 use second::parts::{sheet_parts, sheet_write};
 
 const SECOND: Writing = Writing { parts: sheet_parts, write: sheet_write };
@@ -20,7 +20,7 @@ fn without(parts: &[u8], places: std::ops::Range<usize>, room: &mut [u8]) -> u8 
 /// The writers that a hasty reading makes: one that overlooks the counts of absent sites, the marks
 /// of absent states or the transitions beyond their number, one that tests the room first, one that
 /// wants a byte more of room, and one that fills what is left of the room.
-const WRITERS: [fn(&[u8], &mut [u8]) -> u8; 6] = [
+const WRITERS: [Fill; 6] = [
     |parts, room| without(parts, 3..5, room),
     |parts, room| without(parts, 12..13, room),
     |parts, room| without(parts, 798..810, room),
@@ -41,7 +41,7 @@ const WRITERS: [fn(&[u8], &mut [u8]) -> u8; 6] = [
 ];
 
 /// One that leaves the first byte where it refuses, and one whose parts keep what was there before.
-const READERS: [fn(&[u8], &mut [u8]) -> u8; 2] = [
+const READERS: [Fill; 2] = [
     |sheet, parts| {
         let ground = sheet_parts(sheet, parts);
         if let (21.., Some(first)) = (ground, parts.first_mut()) {

@@ -58,7 +58,8 @@ pub enum Misnamed {
 }
 
 /// The transition that was added last, for what it reads and writes.
-pub struct Way<'a>(&'a mut SheetBuilder);
+#[derive(Debug)]
+pub struct TransitionBuilder<'a>(&'a mut SheetBuilder);
 
 impl SheetBuilder {
     /// Adds a site with these states, its first one first, and tells the site's number.
@@ -86,12 +87,12 @@ impl SheetBuilder {
     }
 
     /// Adds a transition of a site between two of its states.
-    pub fn transition(&mut self, site: u8, from: &str, to: &str) -> Way<'_> {
+    pub fn transition(&mut self, site: u8, from: &str, to: &str) -> TransitionBuilder<'_> {
         let [from, to] = [from, to].map(|name| self.state(site, name));
         let none = Messages::default();
         let transition = Transition { site, from, to, votes: false, reads: none, writes: none };
         self.sheet.transitions.push(transition);
-        Way(self)
+        TransitionBuilder(self)
     }
 
     /// The sheet, or the first name that does not fit. Whether the sheet keeps the rules is said
@@ -139,7 +140,7 @@ impl SheetBuilder {
     }
 }
 
-impl Way<'_> {
+impl TransitionBuilder<'_> {
     /// Messages that it reads, besides those that it reads already.
     pub fn reads(self, names: &[&str]) -> Self {
         self.with(names, |transition| &mut transition.reads)

@@ -55,7 +55,7 @@ mod sheet;
 mod site;
 mod sites;
 
-pub use builder::{Misnamed, SheetBuilder, Way};
+pub use builder::{Misnamed, SheetBuilder, TransitionBuilder};
 pub use day::Day;
 pub use event::{Event, Step};
 pub use journal::{Events, Journal};

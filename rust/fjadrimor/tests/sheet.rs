@@ -109,7 +109,7 @@ fn largest() -> Sheet {
         let (site, from) = (1 + number % 4, number / 4 % 7);
         let reads = Messages::from_iter([8 * (site - 1) + from]);
         let writes = Messages::from_mask(u32::MAX - u32::from(number));
-        Transition { site, from, to: from + 1, votes: number % 3 == 0, reads, writes }
+        Transition { site, from, to: from + 1, votes: site == 3, reads, writes }
     };
     let first = Messages::from_mask(0xFEDC_BA98);
     Sheet {
@@ -199,11 +199,16 @@ fn lists_may_be_given_in_parts() {
 
 #[test]
 fn a_name_that_does_not_fit_is_told() {
-    let told = |more: fn(&mut SheetBuilder)| built(more).unwrap_err().to_string();
-    let unknown: fn(&mut SheetBuilder) = |sheet| drop(sheet.transition(2, "q", "x"));
-    assert_eq!(told(unknown), "site 2 has no state x");
-    assert_eq!(told(|sheet| drop(sheet.transition(3, "q", "c"))), "there is no site 3");
-    assert_eq!(told(|sheet| drop(sheet.transition(0, "q", "c"))), "there is no site 0");
+    let told = |site, from: &str, to: &str| {
+        let more = |sheet: &mut SheetBuilder| {
+            sheet.transition(site, from, to);
+        };
+        built(more).unwrap_err().to_string()
+    };
+    assert_eq!(told(2, "q", "x"), "site 2 has no state x");
+    assert_eq!(told(1, "x", "y"), "site 1 has no state x");
+    assert_eq!(told(3, "q", "c"), "there is no site 3");
+    assert_eq!(told(0, "q", "c"), "there is no site 0");
     let same = |sheet: &mut SheetBuilder| {
         sheet.site(&[("a", Abort), ("q", Working), ("a", Abort)]);
     };
