@@ -1,6 +1,6 @@
 /*
- * fjadrimor.h - a proved three-phase commit for two to eight sites, its event journal, and a judge
- * of commit protocols, on numbers and bytes.
+ * fjadrimor.h - a proved three-phase commit for two to eight sites, its event journal, and a judge,
+ * a reader and a writer of commit protocols, on numbers and bytes.
  *
  * Link with the archive that `rt staticlib embed` writes, target/staticlib/libembed.a (x86-64
  * Linux). It needs memcpy and memset, and less than 64 KB of stack. No call allocates, keeps a
@@ -14,7 +14,7 @@
  *
  * WHAT A CALL TAKES AND LEAVES
  * Every call takes any numbers and any bytes, and ends. What it cannot accept it refuses with a
- * number (FJ_.. below); then the site, the run, the record's room and the fields are as they were
+ * number (FJ_.. below); then the site, the run, a record's room, fields and parts are as they were
  * (fj_run_fresh has one exception; fj_run_journal leaves the run as after the records before the
  * refused one). Bytes beyond those that a call is said to write are never touched, accepted or
  * refused.
@@ -111,11 +111,12 @@ enum {
     FJ_NOT_FINAL = 28,     /* abort leads to non-abort, or commit to non-commit */
     FJ_CYCLE = 29,         /* a site's diagram has a cycle, whatever the messages allow */
     FJ_MANY_STATES = 30,   /* more than 4,096 global states are reachable */
-    FJ_CLASH = 31          /* a transition can write a message still outstanding after its reading */
+    FJ_CLASH = 31,         /* a transition can write a message still outstanding after its reading */
+    FJ_SHEET_NO_ROOM = 32  /* too little room for the whole record of a sheet */
 };
 
-/* How many bytes a site, a run and a record have. */
-enum { FJ_SITE = 8, FJ_RUN = 138, FJ_RECORD = 9 };
+/* How many bytes a site, a run, a record, a sheet's parts and a transition in them have. */
+enum { FJ_SITE = 8, FJ_RUN = 138, FJ_RECORD = 9, FJ_SHEET_PARTS = 810, FJ_TRANSITION = 12 };
 
 /* The least that answers need: bytes, and for the judge words too. */
 enum {
@@ -130,6 +131,9 @@ enum {
 /* The least room for the texts: of a rehearsal of so many bytes, and of a report. */
 #define FJ_REHEARSAL_ROOM(size) (38 + 26 * (((size) < 65536 ? (size) : 65536) / 9))
 enum { FJ_REPORT_ROOM = 3731 };
+
+/* Room for the record of every sheet: the longest has so many bytes. */
+enum { FJ_SHEET_ROOM = 813 };
 
 /* Where a site's parts stand in its bytes. */
 enum {
@@ -157,6 +161,29 @@ enum { FJ_EVENT_OUTCOME = 0, FJ_EVENT_WRITTEN = 1, FJ_EVENT_AWAITED = 2 };
 
 /* Where the parts of a day's answer stand: three numbers of 8 bytes, big-endian, and one byte. */
 enum { FJ_DAY_ACCEPTED = 0, FJ_DAY_WRITTEN = 8, FJ_DAY_PLACE = 16, FJ_DAY_AWAITED = 24 };
+
+/* Where a sheet's parts stand; FJ_PARTS_NUMBER is the number of transitions. */
+enum {
+    FJ_PARTS_SITES = 0,
+    FJ_PARTS_COUNTS = 1,
+    FJ_PARTS_MARKS = 5,
+    FJ_PARTS_FIRST = 37,
+    FJ_PARTS_NUMBER = 41,
+    FJ_PARTS_TRANSITIONS = 42
+};
+
+/* Where the parts of a transition stand, in a sheet's record too. */
+enum {
+    FJ_TRANSITION_SITE = 0,
+    FJ_TRANSITION_FROM = 1,
+    FJ_TRANSITION_TO = 2,
+    FJ_TRANSITION_VOTE = 3,
+    FJ_TRANSITION_READS = 4,
+    FJ_TRANSITION_WRITES = 8
+};
+
+/* Marks of a sheet's states. */
+enum { FJ_MARK_WORKING = 0, FJ_MARK_ABORT = 1, FJ_MARK_COMMIT = 2 };
 
 /* ---- a site ----------------------------------------------------------------------------- */
 
@@ -357,6 +384,39 @@ uint8_t fj_sheet_judge(const uint8_t *sheet, size_t sheet_len, uint64_t *words, 
  */
 size_t fj_sheet_report(const uint8_t *sheet, size_t sheet_len, uint64_t *words, size_t words_len,
                        uint8_t *text, size_t text_len);
+
+/*
+ * A sheet's parts are 810 bytes, zeros where the sheet has nothing:
+ *     0         sites
+ *     1 to 4    the state count of each site
+ *     5 to 36   marks, of state j of site i at 5 + 8 * (i - 1) + j
+ *    37 to 40   the messages outstanding at first, big-endian
+ *    41         the number of transitions
+ *    42 to 809  64 transitions of 12 bytes, as in the record
+ * To edit a sheet, read its parts, change them and write them: the writer finds every length.
+ */
+
+/*
+ * Reads a sheet. Returns 0, and the first 810 bytes of parts are its parts; or the refusal, with
+ * parts as they were: 15 first of all, for fewer than 810 bytes of parts; then 21 to 29 in order.
+ * Whatever is read is written again with the same bytes.
+ */
+uint8_t fj_sheet_parts(const uint8_t *sheet, size_t sheet_len, uint8_t *parts, size_t parts_len);
+
+/*
+ * Writes the record of a sheet's parts at the front of room; its own first two bytes tell how long
+ * it is, and FJ_SHEET_ROOM bytes are enough for every one. Returns 0, or the refusal with the room
+ * as it was:
+ *   23  parts is not 810 bytes long; the number of sites or a state count is outside its range; an
+ *       absent site has a count
+ *   24  more than 64 transitions, or something where a transition beyond their number would stand
+ *   25  a mark, site, state or vote outside its range; a state that is not there has a mark
+ *   26 to 29  as the judge has them
+ *   32  room has fewer bytes than the record
+ * Whatever is written is read back as the same parts. The writer does not look at reachable states:
+ * fj_sheet_judge may still refuse the record with 30 or 31.
+ */
+uint8_t fj_sheet_write(const uint8_t *parts, size_t parts_len, uint8_t *room, size_t room_len);
 
 #ifdef __cplusplus
 }

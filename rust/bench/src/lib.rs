@@ -2,6 +2,7 @@
 
 pub mod day;
 pub mod journal;
+pub mod parts;
 pub mod plain;
 pub mod row;
 pub mod run;
@@ -15,6 +16,7 @@ mod tests;
 
 /// The rows of the table.
 pub fn rows() -> Vec<row::Row> {
-    let rows = [site::rows(), run::rows(), journal::rows(), day::rows(), sheet::rows()];
-    rows.into_iter().flatten().collect()
+    let runs = [site::rows(), run::rows(), journal::rows(), day::rows()];
+    let sheets = [sheet::rows(), parts::rows()];
+    runs.into_iter().chain(sheets).flatten().collect()
 }

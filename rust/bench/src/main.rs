@@ -13,7 +13,7 @@ const USAGE: &str =
        bench --slowest REHEARSAL SHEETS  times the two programs on the worst inputs known";
 
 /// Every comparison of the two; one that differs ends the bench.
-fn comparisons() -> [Tally; 5] {
+fn comparisons() -> [Tally; 6] {
     let (library, plain) = (Side::Library, Side::Plain);
     [
         compare::site::compare(library.site_step(), plain.site_step(), 100_000),
@@ -21,6 +21,7 @@ fn comparisons() -> [Tally; 5] {
         compare::journal::compare(library.journaling(), plain.journaling(), 1000),
         compare::day::compare(library.days(), plain.days(), 100_000),
         compare::sheet::compare(library.judging(), plain.judging(), 2000),
+        compare::parts::compare(library.writing(), plain.writing(), 10_000),
     ]
 }
 

@@ -3,6 +3,7 @@
 use crate::plain;
 use compare::day::Days;
 use compare::journal::Journaling;
+use compare::parts::Writing;
 use compare::run::Runs;
 use compare::sheet::Judging;
 use compare::site::SiteStep;
@@ -64,6 +65,13 @@ impl Side {
         match self {
             Side::Library => Judging { judge: calls::sheet_judge, report: calls::sheet_report },
             Side::Plain => Judging { judge: plain::sheet_judge, report: plain::sheet_report },
+        }
+    }
+
+    pub fn writing(self) -> Writing {
+        match self {
+            Side::Library => Writing { parts: calls::sheet_parts, write: calls::sheet_write },
+            Side::Plain => Writing { parts: plain::sheet_parts, write: plain::sheet_write },
         }
     }
 }

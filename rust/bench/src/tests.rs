@@ -50,3 +50,10 @@ fn sheets_are_the_same() {
         Judging { judge: second::report::sheet_judge, report: second::report::sheet_report };
     assert!(compare(PLAIN.judging(), second, 5000).finish());
 }
+
+#[test]
+fn parts_are_the_same() {
+    use compare::parts::{compare, Writing};
+    let second = Writing { parts: second::parts::sheet_parts, write: second::parts::sheet_write };
+    assert!(compare(PLAIN.writing(), second, 20_000).finish());
+}

@@ -4,6 +4,7 @@ pub mod day;
 pub mod hostile;
 pub mod inputs;
 pub mod journal;
+pub mod parts;
 pub mod program;
 pub mod run;
 pub mod sheet;
@@ -14,6 +15,8 @@ pub mod tally;
 mod figure_tests;
 #[cfg(test)]
 mod obeying_tests;
+#[cfg(test)]
+mod parts_tests;
 
 /// The Rust in README.md compiles and runs as it stands there.
 #[cfg(doctest)]

@@ -8,6 +8,7 @@ const USAGE: &str = "usage: compare site [--count N]
        compare journal [--count N]
        compare day [--count N]
        compare sheet [--count N]
+       compare parts [--count N]
        compare hostile [--count N]
        compare program PATH rehearsal [--count N]
        compare program PATH sheets [--count N]";
@@ -71,6 +72,14 @@ fn sheet(count: u64) -> Tally {
     compare(library, second, count)
 }
 
+fn parts(count: u64) -> Tally {
+    use compare::parts::{compare, Writing};
+    let library =
+        Writing { parts: fjadrimor::calls::sheet_parts, write: fjadrimor::calls::sheet_write };
+    let second = Writing { parts: second::parts::sheet_parts, write: second::parts::sheet_write };
+    compare(library, second, count)
+}
+
 /// An executable's output with what the second program writes.
 fn program(path: &str, what: &str, rest: &[String]) -> Option<Tally> {
     let tally = match what {
@@ -90,6 +99,7 @@ fn compared(arguments: &[String]) -> Option<Tally> {
         "journal" => journal(count(rest, 3000)?),
         "day" => day(count(rest, 100_000)?),
         "sheet" => sheet(count(rest, 5000)?),
+        "parts" => parts(count(rest, 20_000)?),
         "hostile" => compare::hostile::compare(count(rest, 10_000)?),
         "program" => match rest {
             [path, what, rest @ ..] => program(path, what, rest)?,

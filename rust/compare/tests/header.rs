@@ -53,6 +53,8 @@ fn rooms_are_as_large_as_said() {
     needs("FJ_RECORD", 15, |room| calls::record_write(6, 1, 0, 0, 0, 0, room, 0).into());
     needs("FJ_RUN", 15, |room| calls::run_fresh(2, room).into());
     needs("FJ_VERDICT", 15, |room| calls::sheet_judge(&[], &mut [], room).into());
+    needs("FJ_SHEET_PARTS", 15, |room| calls::sheet_parts(&[], room).into());
+    needs("FJ_SHEET_ROOM", 32, |room| calls::sheet_write(&longest_parts(), room).into());
     needs("FJ_REPORT_ROOM", 0, |room| calls::sheet_report(&[], &mut [], room));
     let words = number("FJ_WORDS");
     let judged = |words| calls::sheet_judge(&[], &mut vec![0; words], &mut [0; 206]);
@@ -105,6 +107,44 @@ fn parts_of_a_day_stand_where_the_header_says() {
     assert_eq!((told, answer[number("FJ_DAY_AWAITED")]), ([1, 3, 9], 3));
 }
 
+/// The parts of a sheet with the longest record: four sites of eight states, and the same transition
+/// 64 times.
+fn longest_parts() -> Vec<u8> {
+    let at = |part: &str| number(&format!("FJ_PARTS_{part}"));
+    let way = |part: &str| number(&format!("FJ_TRANSITION_{part}"));
+    let mut parts = vec![0; number("FJ_SHEET_PARTS")];
+    parts[at("SITES")] = 4;
+    parts[at("COUNTS")..at("MARKS")].fill(8);
+    parts[at("MARKS") + 8 * 2 + 7] = number("FJ_MARK_COMMIT") as u8;
+    parts[at("FIRST")..at("NUMBER")].copy_from_slice(&[1, 2, 3, 4]);
+    parts[at("NUMBER")] = 64;
+    for transition in parts[at("TRANSITIONS")..].chunks_mut(number("FJ_TRANSITION")) {
+        transition[way("SITE")] = 3;
+        transition[way("FROM")] = 6;
+        transition[way("TO")] = 7;
+        transition[way("VOTE")] = 1;
+        transition[way("READS")..way("WRITES")].copy_from_slice(&[5, 6, 7, 8]);
+        transition[way("WRITES")..].copy_from_slice(&[9, 10, 11, 12]);
+    }
+    parts
+}
+
+#[test]
+fn parts_of_a_sheet_stand_where_the_header_says() {
+    let mut room = vec![0; number("FJ_SHEET_ROOM")];
+    assert_eq!(calls::sheet_write(&longest_parts(), &mut room), 0);
+    let sheet = fjadrimor::Sheet::read(&room).expect("it was written");
+    assert!(sheet.sites.iter().map(Vec::len).eq([8; 4]));
+    let marks = sheet.sites.concat();
+    assert_eq!(marks.iter().position(|&mark| mark == fjadrimor::Mark::Commit), Some(8 * 2 + 7));
+    assert_eq!((sheet.first.mask(), sheet.transitions.len()), (0x0102_0304, 64));
+    let t = sheet.transitions[63];
+    assert_eq!((t.site, t.from, t.to, t.votes), (3, 6, 7, true));
+    assert_eq!((t.reads.mask(), t.writes.mask()), (0x0506_0708, 0x090A_0B0C));
+    let marks = ["WORKING", "ABORT", "COMMIT"].map(|mark| number(&format!("FJ_MARK_{mark}")));
+    assert_eq!(marks, fjadrimor::Mark::ALL.map(|mark| mark as usize));
+}
+
 /// Runs in a thread that has no more stack than the header asks for.
 fn with_little_stack(work: impl FnOnce() + Send + 'static) {
     assert!(HEADER.contains("less than 64 KB of stack"));
@@ -116,7 +156,7 @@ fn with_little_stack(work: impl FnOnce() + Send + 'static) {
 fn the_stack_is_enough() {
     let journal = Journals::default().valid(&mut Random::new(61), 8, 7281);
     let day = longest(8);
-    let sheet = product(&[8; 4], false).bytes();
+    let (sheet, parts) = (product(&[8; 4], false).bytes(), longest_parts());
     let (mut words, mut text) = (vec![0; 4096], vec![0; 200_000]);
     let (mut run, mut site) = ([0; 138], [8, 1, 0, 1, 0, 0, 0, 0]);
     with_little_stack(move || {
@@ -132,5 +172,7 @@ fn the_stack_is_enough() {
         calls::rehearse(&journal, &mut text);
         calls::sheet_judge(&sheet, &mut words, &mut [0; 206]);
         calls::sheet_report(&sheet, &mut words, &mut text);
+        calls::sheet_parts(&sheet, &mut [0; 810]);
+        calls::sheet_write(&parts, &mut text);
     });
 }

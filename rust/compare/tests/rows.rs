@@ -5,6 +5,7 @@
 mod rows {
     mod days;
     mod deliveries;
+    mod parts;
     mod records;
     mod rehearsals;
     mod run_grounds;

@@ -90,6 +90,20 @@ pub mod c {
             text: *mut u8,
             text_len: usize,
         ) -> usize;
+
+        pub fn fj_sheet_parts(
+            sheet: *const u8,
+            sheet_len: usize,
+            parts: *mut u8,
+            parts_len: usize,
+        ) -> u8;
+
+        pub fn fj_sheet_write(
+            parts: *const u8,
+            parts_len: usize,
+            room: *mut u8,
+            room_len: usize,
+        ) -> u8;
     }
 }
 
@@ -176,4 +190,18 @@ pub fn sheet_report(sheet: &[u8], words: &mut [u64], text: &mut [u8]) -> usize {
     let (room, length) = (text.as_mut_ptr(), text.len());
     // SAFETY: all slices are live, distinct, and as long as said.
     unsafe { c::fj_sheet_report(sheet.as_ptr(), sheet.len(), lent, count, room, length) }
+}
+
+/// The parts of a sheet.
+pub fn sheet_parts(sheet: &[u8], parts: &mut [u8]) -> u8 {
+    let (room, length) = (parts.as_mut_ptr(), parts.len());
+    // SAFETY: both slices are live, distinct, and as long as said.
+    unsafe { c::fj_sheet_parts(sheet.as_ptr(), sheet.len(), room, length) }
+}
+
+/// Writes the record of these parts at the front of the room.
+pub fn sheet_write(parts: &[u8], room: &mut [u8]) -> u8 {
+    let (room, length) = (room.as_mut_ptr(), room.len());
+    // SAFETY: both slices are live, distinct, and as long as said.
+    unsafe { c::fj_sheet_write(parts.as_ptr(), parts.len(), room, length) }
 }

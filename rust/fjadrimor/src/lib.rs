@@ -37,14 +37,17 @@
 //!   inside a step.
 //! - [`Journal`]: events as bytes, and their rehearsal as text. [`Run::journal`] takes a whole day's
 //!   records in one call, and [`Day`] is its answer.
-//! - [`Sheet`]: a commit protocol written down, and the [`Verdict`] whether it is nonblocking.
+//! - [`Sheet`]: a commit protocol written down, read from its record and written to it, and built by
+//!   names with a [`SheetBuilder`]. [`judge`] gives the [`Verdict`] whether it is nonblocking.
 //! - [`Refusal`]: why a call was refused, with the number of document 01 and a sentence.
 //! - [`calls`]: the C interface itself, on bytes.
 
+mod builder;
 pub mod calls;
 mod day;
 mod event;
 mod journal;
+mod judgement;
 mod message;
 mod refusal;
 mod run;
@@ -52,13 +55,15 @@ mod sheet;
 mod site;
 mod sites;
 
+pub use builder::{Misnamed, SheetBuilder, TransitionBuilder};
 pub use day::Day;
 pub use event::{Event, Step};
 pub use journal::{Events, Journal};
+pub use judgement::{judge, report, Decision, Judgement, Local, Verdict};
 pub use message::{Kind, Message, Vote};
 pub use refusal::Refusal;
 pub use run::{Ran, Run};
-pub use sheet::{Decision, Judgement, Local, Sheet, Verdict};
+pub use sheet::{Mark, Messages, Sheet, Transition};
 pub use site::{Done, Outcome, Site, State};
 pub use sites::Sites;
 

@@ -55,6 +55,7 @@ grounds! {
     Cycle = 29, "a site's diagram has a cycle, whatever the messages allow";
     ManyStates = 30, "more than 4,096 global states are reachable";
     Clash = 31, "a transition can write a message that is still outstanding after its reading";
+    SheetNoRoom = 32, "there is too little room for the whole record of the sheet";
 }
 
 impl Refusal {

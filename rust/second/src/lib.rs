@@ -8,6 +8,7 @@ pub mod day;
 pub mod explore;
 pub mod journal;
 pub mod judge;
+pub mod parts;
 pub mod rehearsal;
 pub mod report;
 pub mod run;

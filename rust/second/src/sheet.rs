@@ -36,12 +36,13 @@ pub struct Sheet {
     pub moves: Vec<Move>,
 }
 
-/// A sheet's bytes, taken apart but not yet looked at.
-struct Parts<'a> {
-    counts: &'a [u8],
-    marks: &'a [u8],
-    first: &'a [u8],
-    moves: Vec<&'a [u8]>,
+/// What a sheet lists, taken apart but not yet looked at: a count for each site, a mark for each of
+/// their states, the first messages and the transitions.
+pub(crate) struct Lists<'a> {
+    pub counts: &'a [u8],
+    pub marks: Vec<u8>,
+    pub first: &'a [u8],
+    pub moves: Vec<&'a [u8]>,
 }
 
 /// Reads a sheet, or tells the ground of its refusal.
@@ -51,12 +52,7 @@ pub fn read(bytes: &[u8]) -> Result<Sheet, u8> {
         return Err(22);
     }
     let counts = counts(&body[1..]).ok_or(23)?;
-    let parts = parts(counts, &body[2 + counts.len()..]).ok_or(24)?;
-    let sheet = sheet(&parts).ok_or(25)?;
-    match sheet.fault() {
-        Some(ground) => Err(ground),
-        None => Ok(sheet),
-    }
+    lists(counts, &body[2 + counts.len()..]).ok_or(24)?.sheet()
 }
 
 /// "2-byte big-endian length L of all that follows": what follows, if it is L bytes and not none.
@@ -75,29 +71,40 @@ fn counts(rest: &[u8]) -> Option<&[u8]> {
 }
 
 /// What follows the counts, if it is as long as the counts give.
-fn parts<'a>(counts: &'a [u8], rest: &'a [u8]) -> Option<Parts<'a>> {
+fn lists<'a>(counts: &'a [u8], rest: &'a [u8]) -> Option<Lists<'a>> {
     let states = counts.iter().map(|&count| usize::from(count)).sum();
     let (marks, rest) = rest.split_at_checked(states)?;
     let (first, rest) = rest.split_at_checked(4)?;
     let (&number, rest) = rest.split_first()?;
     let right = number <= 64 && rest.len() == 12 * usize::from(number);
-    right.then(|| Parts { counts, marks, first, moves: rest.chunks(12).collect() })
+    right.then(|| Lists { counts, marks: marks.to_vec(), first, moves: rest.chunks(12).collect() })
 }
 
-/// The parts with a meaning, if each is within its range.
-fn sheet(parts: &Parts) -> Option<Sheet> {
-    let locals = (1..)
-        .zip(parts.counts)
-        .flat_map(|(site, &count)| (0..count).map(move |state| (site, state)));
-    let marks = locals.zip(parts.marks).map(|(local, &byte)| Some((local, mark(byte)?)));
-    let marks = marks.collect::<Option<BTreeMap<Local, Mark>>>()?;
-    let moves = parts.moves.iter().map(|bytes| transition(bytes, &marks));
-    Some(Sheet {
-        sites: parts.counts.len() as u8,
-        first: messages(parts.first),
-        moves: moves.collect::<Option<_>>()?,
-        marks,
-    })
+impl Lists<'_> {
+    /// The sheet, or the first of the grounds 25 to 29 that holds.
+    pub fn sheet(&self) -> Result<Sheet, u8> {
+        let sheet = self.meant().ok_or(25)?;
+        match sheet.fault() {
+            Some(ground) => Err(ground),
+            None => Ok(sheet),
+        }
+    }
+
+    /// The lists with a meaning, if each is within its range.
+    fn meant(&self) -> Option<Sheet> {
+        let locals = (1..)
+            .zip(self.counts)
+            .flat_map(|(site, &count)| (0..count).map(move |state| (site, state)));
+        let marks = locals.zip(&self.marks).map(|(local, &byte)| Some((local, mark(byte)?)));
+        let marks = marks.collect::<Option<BTreeMap<Local, Mark>>>()?;
+        let moves = self.moves.iter().map(|bytes| transition(bytes, &marks));
+        Some(Sheet {
+            sites: self.counts.len() as u8,
+            first: messages(self.first),
+            moves: moves.collect::<Option<_>>()?,
+            marks,
+        })
+    }
 }
 
 fn mark(byte: u8) -> Option<Mark> {

@@ -20,6 +20,12 @@ pub struct Sheet {
 }
 
 impl Move {
+    /// The transitions of these bytes, or 25.
+    pub fn all(bytes: &[u8], sites: u8, counts: &[u8; 4]) -> Result<Vec<Move>, u8> {
+        let read = |bytes: &[u8]| Move::from_bytes(bytes.try_into().ok()?, sites, counts);
+        bytes.chunks_exact(12).map(read).collect::<Option<Vec<_>>>().ok_or(25)
+    }
+
     fn from_bytes(bytes: &[u8; 12], sites: u8, counts: &[u8; 4]) -> Option<Move> {
         let &[number, from, to, vote, a, b, c, d, e, f, g, h] = bytes;
         if number == 0 || number > sites {
@@ -84,12 +90,12 @@ impl Sheet {
         for (marks, &count) in marks.chunks_exact_mut(8).zip(&counts) {
             marks.iter_mut().zip(listed.by_ref().take(count as usize)).for_each(|(a, b)| *a = *b);
         }
-        let read = |bytes: &[u8]| Move::from_bytes(bytes.try_into().ok()?, sites, &counts);
-        let moves = rest.chunks_exact(12).map(read).collect::<Option<Vec<_>>>().ok_or(25)?;
-        Ok(Sheet { sites, counts, marks, first: u32::from_be_bytes(*first), moves })
+        let first = u32::from_be_bytes(*first);
+        Ok(Sheet { sites, counts, marks, first, moves: Move::all(rest, sites, &counts)? })
     }
 
-    fn fault(&self) -> Option<u8> {
+    /// The first of the grounds 26 to 29 that holds.
+    pub fn fault(&self) -> Option<u8> {
         if self.moves.iter().any(|a| a.reads == 0) {
             return Some(26);
         }

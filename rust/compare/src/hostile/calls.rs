@@ -1,6 +1,7 @@
 //! The entry points of the C interface on lent memory: a call, and what it may leave.
 
 use super::lent::{Lent, Way};
+use crate::inputs::parts::PARTS;
 use fjadrimor::calls::c;
 
 #[derive(Clone, Copy, Debug, PartialEq, Eq, PartialOrd, Ord)]
@@ -14,6 +15,8 @@ pub enum Entry {
     Rehearse,
     SheetJudge,
     SheetReport,
+    SheetParts,
+    SheetWrite,
 }
 
 /// A call. What an entry point does not take is ignored.
@@ -23,11 +26,11 @@ pub struct Call {
     /// K S O M V X; K is also the n of a fresh run.
     pub fields: [u8; 6],
     pub at: usize,
-    /// The site, run, journal, input or sheet.
+    /// The site, run, journal, input, sheet or parts.
     pub given: Vec<u8>,
     /// The journal that is handed over with a run.
     pub journal: Vec<u8>,
-    /// The room for an answer, a fresh run, a record or a text.
+    /// The room for an answer, a fresh run, a record, parts or a text.
     pub room: Vec<u8>,
     pub words: Vec<u64>,
 }
@@ -43,7 +46,7 @@ pub struct After {
 }
 
 impl Entry {
-    pub const ALL: [Entry; 9] = [
+    pub const ALL: [Entry; 11] = [
         Entry::SiteStep,
         Entry::RunFresh,
         Entry::RunEvent,
@@ -53,6 +56,8 @@ impl Entry {
         Entry::Rehearse,
         Entry::SheetJudge,
         Entry::SheetReport,
+        Entry::SheetParts,
+        Entry::SheetWrite,
     ];
 
     /// The refusals that it has; for a text 0, where the room is too small.
@@ -65,6 +70,8 @@ impl Entry {
             Entry::RecordRead => &[10, 11, 12, 13, 14, 15],
             Entry::RecordWrite => &[13, 14, 15],
             Entry::SheetJudge => &[15, 20, 21, 22, 23, 24, 25, 26, 27, 28, 29, 30, 31],
+            Entry::SheetParts => &[15, 21, 22, 23, 24, 25, 26, 27, 28, 29],
+            Entry::SheetWrite => &[23, 24, 25, 26, 27, 28, 29, 32],
             Entry::Rehearse | Entry::SheetReport => &[0],
         }
     }
@@ -95,6 +102,8 @@ impl Call {
                 Entry::Rehearse => c::fj_rehearse(a, a_len, b, b_len),
                 Entry::SheetJudge => c::fj_sheet_judge(a, a_len, w, w_len, b, b_len).into(),
                 Entry::SheetReport => c::fj_sheet_report(a, a_len, w, w_len, b, b_len),
+                Entry::SheetParts => c::fj_sheet_parts(a, a_len, b, b_len).into(),
+                Entry::SheetWrite => c::fj_sheet_write(a, a_len, b, b_len).into(),
             }
         };
         After {
@@ -140,6 +149,12 @@ impl Call {
                 room[record.clone()].copy_from_slice(&after.room[record]);
             }
             (Entry::RecordRead | Entry::RecordWrite, _) => {}
+            (Entry::SheetParts, 0) => room[..PARTS].copy_from_slice(&after.room[..PARTS]),
+            (Entry::SheetWrite, 0) => {
+                let record = 2 + usize::from(u16::from_be_bytes([after.room[0], after.room[1]]));
+                room[..record].copy_from_slice(&after.room[..record]);
+            }
+            (Entry::SheetParts | Entry::SheetWrite, _) => {}
             (Entry::SheetJudge, 0) => {
                 room[..206].copy_from_slice(&after.room[..206]);
                 words[..4096].copy_from_slice(&after.words[..4096]);

@@ -8,9 +8,11 @@ mod lent;
 
 use crate::inputs::days::{Handover, Handovers};
 use crate::inputs::journals::{any_fields, Journals};
+use crate::inputs::parts::{any_parts, PARTS};
 use crate::inputs::runs::{any_run, Events, RUN};
 use crate::inputs::sheets::any_case;
 use crate::inputs::{any_site, any_step, steps, Random};
+use crate::parts::LONGEST;
 use crate::sheet::{OUT, ROOM};
 use crate::tally::Tally;
 use calls::{Call, Entry};
@@ -119,6 +121,11 @@ impl Hostile {
         Call { words, ..self.call(entry, [0; 6], sheet, needed) }
     }
 
+    fn sheet_write(&mut self) -> Call {
+        let parts = any_parts(&mut self.random);
+        self.call(Entry::SheetWrite, [0; 6], parts, LONGEST)
+    }
+
     /// A call with these fields and bytes or others, and a room of about the needed length.
     fn call(&mut self, entry: Entry, fields: [u8; 6], given: Vec<u8>, needed: usize) -> Call {
         let mut fields = fields;
@@ -141,6 +148,8 @@ impl Hostile {
             Entry::Rehearse => self.rehearse(),
             Entry::SheetJudge => self.sheet(entry, OUT),
             Entry::SheetReport => self.sheet(entry, ROOM),
+            Entry::SheetParts => self.sheet(entry, PARTS),
+            Entry::SheetWrite => self.sheet_write(),
         }
     }
 }

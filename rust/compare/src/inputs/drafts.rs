@@ -11,6 +11,14 @@ pub struct Move {
     pub writes: u32,
 }
 
+impl Move {
+    /// Its bytes in a record.
+    pub fn bytes(&self) -> Vec<u8> {
+        let ends = [self.site, self.from, self.to, self.vote];
+        [ends, self.reads.to_be_bytes(), self.writes.to_be_bytes()].concat()
+    }
+}
+
 /// A sheet that may be wrong in every way that its bytes can be.
 #[derive(Clone, Debug)]
 pub struct Draft {
@@ -54,11 +62,7 @@ impl Draft {
         body.extend(self.marks.concat());
         body.extend(self.first.to_be_bytes());
         body.push(self.transitions.unwrap_or(self.moves.len() as u8));
-        for a in &self.moves {
-            body.extend([a.site, a.from, a.to, a.vote]);
-            body.extend(a.reads.to_be_bytes());
-            body.extend(a.writes.to_be_bytes());
-        }
+        body.extend(self.moves.iter().flat_map(Move::bytes));
         body.resize(body.len().saturating_sub(self.cut) + self.pad, 0);
         let length = (body.len() as i32 + self.excess).clamp(0, 65_535) as u16;
         [&length.to_be_bytes()[..], &body].concat()

@@ -6,6 +6,7 @@ pub mod faults;
 pub mod figures;
 pub mod journals;
 pub mod obeying;
+pub mod parts;
 pub mod runs;
 pub mod sheets;
 

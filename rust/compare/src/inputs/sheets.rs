@@ -140,12 +140,18 @@ fn good(random: &mut Random) -> Draft {
     }
 }
 
-/// A sheet of every sort: good, with one or two faults, cut, padded, changed, or random bytes.
-pub fn any_case(random: &mut Random) -> Case {
+/// A good draft, or one with one or two faults.
+pub fn any_draft(random: &mut Random) -> Draft {
     let mut draft = good(random);
     for _ in 0..random.below(5).saturating_sub(2) {
         (random.pick(&faults::ALL).1)(random, &mut draft);
     }
+    draft
+}
+
+/// A sheet of every sort: good, with one or two faults, cut, padded, changed, or random bytes.
+pub fn any_case(random: &mut Random) -> Case {
+    let mut draft = any_draft(random);
     let mut bytes = draft.bytes();
     let place = random.below(bytes.len() as u64) as usize;
     match random.below(24) {

@@ -4,6 +4,7 @@ use compare::day::RunJournal;
 use compare::inputs::drafts::Move;
 use compare::inputs::pattern;
 use compare::journal::Journaling;
+use compare::parts::Writing;
 use compare::run::Runs;
 use compare::sheet::Judging;
 use compare::site::{Call, SiteStep};
@@ -33,6 +34,11 @@ pub const JOURNALS: [Journaling; 2] = [
 pub const JUDGES: [Judging; 2] = [
     Judging { judge: fjadrimor::calls::sheet_judge, report: fjadrimor::calls::sheet_report },
     Judging { judge: second::report::sheet_judge, report: second::report::sheet_report },
+];
+
+pub const WRITERS: [Writing; 2] = [
+    Writing { parts: fjadrimor::calls::sheet_parts, write: fjadrimor::calls::sheet_write },
+    Writing { parts: second::parts::sheet_parts, write: second::parts::sheet_write },
 ];
 
 /// Each of the two programs with each row.

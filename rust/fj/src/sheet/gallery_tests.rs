@@ -1,7 +1,9 @@
 //! What holds of every sheet in the gallery, and of the one that docs/SHEETS.md shows.
 
 use super::model::{Sheet, Transition};
+use super::tests::{judged, record};
 use super::{judge, library, notation, refusal};
+use compare::parts::{compare_records, Writing};
 use std::path::Path;
 
 const PAGE: &str = include_str!("../../../../docs/SHEETS.md");
@@ -35,6 +37,19 @@ fn a_vote_stands_where_the_site_could_still_refuse() {
     }
 }
 
+/// Every sheet goes through the reader to its parts and through the writer back to the same bytes, in
+/// the library as in the second program.
+#[test]
+fn a_sheet_is_read_and_written_again() {
+    let library =
+        Writing { parts: fjadrimor::calls::sheet_parts, write: fjadrimor::calls::sheet_write };
+    let second = Writing { parts: second::parts::sheet_parts, write: second::parts::sheet_write };
+    let read = |(_, text): (String, String)| notation::read(&text).expect("the gallery is good");
+    let records: Vec<Vec<u8>> = sheets().into_iter().map(read).map(|is| record(&is)).collect();
+    let tally = compare_records(library, second, &records);
+    assert!(tally.finish() && tally.compared > 10 * records.len() as u64);
+}
+
 /// The row of a sheet in the gallery's page, from its report.
 fn row(file: &str, report: &str) -> String {
     let name = Path::new(file).file_stem().and_then(|stem| stem.to_str()).expect("a name");
@@ -49,7 +64,7 @@ fn the_gallery_has_a_row_for_each_sheet() {
     let page = include_str!("../../../../gallery/README.md");
     for (name, text) in sheets() {
         let sheet = notation::read(&text).expect("the gallery is good");
-        let report = String::from_utf8(library::report(&sheet.bytes())).expect("text");
+        let report = String::from_utf8(library::report(&record(&sheet))).expect("text");
         let row = row(&name, &report);
         assert!(page.lines().any(|line| line == row), "{row}");
     }
@@ -60,8 +75,8 @@ fn the_gallery_has_a_row_for_each_sheet() {
 fn a_tolerance_is_told_alike() {
     for (name, text) in sheets() {
         let sheet = notation::read(&text).expect("the gallery is good");
-        let judged = library::judge(&sheet.bytes()).expect("it is accepted");
-        let plain = String::from_utf8(library::report(&sheet.bytes())).expect("text");
+        let judged = judged(&sheet).expect("it is accepted");
+        let plain = String::from_utf8(library::report(&record(&sheet))).expect("text");
         let last = plain.lines().last().expect("a last line");
         assert!(judge::text(&sheet, &judged).lines().any(|line| line == last), "{name}: {last}");
     }
@@ -90,7 +105,7 @@ fn the_page_shows_the_sheet_without_its_comment_and_its_report() {
     let said = |text| str::lines(text).filter(|line| !line.is_empty() && !line.starts_with('#'));
     assert!(said(shown()).eq(said(text)));
     let sheet = notation::read(shown()).expect("the notation is good");
-    let report = judge::text(&sheet, &library::judge(&sheet.bytes()).expect("it is accepted"));
+    let report = judge::text(&sheet, &judged(&sheet).expect("it is accepted"));
     assert!(PAGE.contains(&format!(".sheet\n{report}```\n")), "{report}");
 }
 
@@ -108,9 +123,22 @@ fn the_page_shows_the_refusals_of_the_sheet_that_it_shows() {
         [(27, "reads no2", "reads start2"), (31, "first request", "first request yes2")]
     {
         let sheet = notation::read(&shown().replacen(good, bad, 1)).expect("the notation is good");
-        assert_eq!(library::judge(&sheet.bytes()).err(), Some(ground));
+        assert_eq!(judged(&sheet).err(), Some(ground));
         let told = refusal::told(ground, &sheet, "two.sheet");
         let lines: String = told.lines().map(|line| format!("fj: {line}\n")).collect();
         assert!(PAGE.contains(&format!("```\n{lines}```\n")), "{lines}");
     }
+}
+
+/// What the page builds in Rust stands in the builder's own documentation, which is run.
+#[test]
+fn the_page_shows_the_builder_as_its_documentation_does() {
+    let documented = include_str!("../../../fjadrimor/src/builder.rs");
+    let shown = PAGE.split("```rust\n").nth(1).and_then(|rest| rest.split("```").next());
+    let lines: String = shown
+        .expect("a listing")
+        .lines()
+        .map(|line| format!("/// {line}").trim_end().to_string() + "\n")
+        .collect();
+    assert!(documented.contains(&lines), "{lines}");
 }

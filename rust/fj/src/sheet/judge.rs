@@ -41,7 +41,7 @@ fn table(sheet: &Sheet, judgement: &Judgement, site: u8) -> String {
         let yes_no = |holds| if holds { "yes" } else { "no" };
         let head = format!(
             "  {name:width$}  {:7}  {:7}  {:11}  {:8}  ",
-            sheet.state(local).mark.word(),
+            sheet.state(local).mark.name(),
             yes_no(found.reached),
             yes_no(found.committable),
             found.decision.word()

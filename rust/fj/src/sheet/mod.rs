@@ -7,6 +7,7 @@ mod draw;
 mod explain;
 #[cfg(test)]
 mod explain_tests;
+mod faulty;
 #[cfg(test)]
 mod gallery_tests;
 mod judge;
@@ -39,11 +40,11 @@ pub const USAGE: &str = "usage: fj judge FILE                     the report, wi
   it is blocking; 2 bad usage.
 ";
 
-/// A sheet as it was given: its file's name, its bytes, and the sheet with names where the bytes
-/// have the form of one.
+/// A sheet as it was given: its file's name, its record (of a notation the library's, or the ground
+/// on which it writes none), and the sheet with names where the record has the form of one.
 struct Input {
     file: String,
-    bytes: Vec<u8>,
+    record: Result<Vec<u8>, u8>,
     sheet: Option<Sheet>,
 }
 
@@ -105,13 +106,13 @@ fn input(file: &OsStr) -> Result<Input, String> {
 fn taken(file: String, content: Content) -> Result<Input, String> {
     let text = match content {
         Content::Text(text) if !text.is_empty() => text,
-        Content::Text(_) => return Ok(Input { file, bytes: Vec::new(), sheet: None }),
+        Content::Text(_) => return Ok(Input { file, record: Ok(Vec::new()), sheet: None }),
         Content::Bytes(bytes, _) => {
-            return Ok(Input { file, sheet: Sheet::from_bytes(&bytes), bytes })
+            return Ok(Input { file, sheet: Sheet::from_record(&bytes), record: Ok(bytes) })
         }
     };
     match notation::read(&text) {
-        Ok(sheet) => Ok(Input { file, bytes: sheet.bytes(), sheet: Some(sheet) }),
+        Ok(sheet) => Ok(Input { file, record: sheet.record(), sheet: Some(sheet) }),
         Err(Error { line, reason }) => {
             Err(Error { line, reason: Taken::Sheet.in_notation(&text, &reason) }.within(&file))
         }
@@ -120,7 +121,7 @@ fn taken(file: String, content: Content) -> Result<Input, String> {
 
 /// Whether bytes have the form of a sheet's record.
 pub fn is_record(bytes: &[u8]) -> bool {
-    Sheet::from_bytes(bytes).is_some()
+    Sheet::from_record(bytes).is_some()
 }
 
 impl Answer {
@@ -134,7 +135,7 @@ impl Answer {
 
     /// The same answer, with a blocking verdict as trouble.
     fn strictly(self, input: &Input) -> Answer {
-        let witness = library::judge(&input.bytes).ok().and_then(|judgement| judgement.witness);
+        let witness = input.judged().ok().and_then(|judgement| judgement.witness);
         let blocking = witness.map(|(site, state, condition)| {
             format!("{}: blocking at {site}.{state} condition {condition}", input.file)
         });
@@ -143,10 +144,14 @@ impl Answer {
 }
 
 impl Input {
+    /// The judgement of the record, or the ground on which it is refused or not written.
+    fn judged(&self) -> Result<library::Judgement, u8> {
+        self.record.as_ref().map_err(|ground| *ground).and_then(|record| library::judge(record))
+    }
+
     /// The sheet, where it has the form that grounds 21 to 29 ask for; else the refusal in words.
     fn formed(&self) -> Result<(&Sheet, Result<library::Judgement, u8>), Answer> {
-        let judged = library::judge(&self.bytes);
-        match (&self.sheet, judged) {
+        match (&self.sheet, self.judged()) {
             (Some(sheet), Ok(judgement)) => Ok((sheet, Ok(judgement))),
             (Some(sheet), Err(ground @ 30..=31)) => Ok((sheet, Err(ground))),
             (_, judged) => {
@@ -161,7 +166,8 @@ impl Input {
         if let Some(sheet) = &self.sheet {
             return refusal::told(ground, sheet, &self.file);
         }
-        Taken::Sheet.in_bytes(&self.bytes, &refusal::text(ground, None)).within(&self.file)
+        let bytes = self.record.as_deref().unwrap_or_default();
+        Taken::Sheet.in_bytes(bytes, &refusal::text(ground, None)).within(&self.file)
     }
 }
 
@@ -174,16 +180,20 @@ fn judged(input: &Input) -> Answer {
 }
 
 fn plain(input: &Input) -> Answer {
-    let refused = library::judge(&input.bytes).err();
-    Answer {
-        output: library::report(&input.bytes),
-        trouble: refused.map(|ground| input.refused(ground)),
-    }
+    let refused = input.judged().err();
+    let output = match &input.record {
+        Ok(record) => library::report(record),
+        Err(ground) => format!("refused {ground}\n").into_bytes(),
+    };
+    Answer { output, trouble: refused.map(|ground| input.refused(ground)) }
 }
 
 fn assembled(input: &Input) -> Answer {
-    let bytes = |_| Answer::output(input.bytes.clone());
-    input.formed().map_or_else(|refused| refused, bytes)
+    let written = |(sheet, _): (&Sheet, _)| match sheet.record() {
+        Ok(record) => Answer::output(record),
+        Err(ground) => Answer::trouble(input.refused(ground)),
+    };
+    input.formed().map_or_else(|refused| refused, written)
 }
 
 fn shown(input: &Input) -> Answer {

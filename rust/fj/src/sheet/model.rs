@@ -1,4 +1,8 @@
-//! A sheet with names, and the same sheet as 01's record.
+//! A sheet with names. The library makes its record, and reads it from one.
+
+use super::faulty;
+pub use fjadrimor::Mark;
+use fjadrimor::{Messages, Refusal, Sheet as Parts};
 
 /// A sheet: what its bytes hold, and the names that its notation gives.
 #[derive(Clone, Debug, Default)]
@@ -25,13 +29,6 @@ pub struct State {
     pub mark: Mark,
 }
 
-#[derive(Clone, Copy, Debug, PartialEq, Eq)]
-pub enum Mark {
-    Working,
-    Abort,
-    Commit,
-}
-
 /// A transition, with the line of the notation that says it (0 where bytes do).
 #[derive(Clone, Copy, Debug, PartialEq, Eq)]
 pub struct Transition {
@@ -47,63 +44,42 @@ pub struct Transition {
 /// A local state: a site from 1 and one of its states from 0.
 pub type Local = (u8, u8);
 
-/// Every mark, in the order of its number in the record.
-pub const MARKS: [Mark; 3] = [Mark::Working, Mark::Abort, Mark::Commit];
-
-impl Mark {
-    pub fn word(self) -> &'static str {
-        match self {
-            Mark::Working => "working",
-            Mark::Abort => "abort",
-            Mark::Commit => "commit",
-        }
-    }
-}
-
 impl Sheet {
-    /// The record of this sheet.
-    pub fn bytes(&self) -> Vec<u8> {
-        let states = || self.sites.iter().flat_map(|site| &site.states);
-        let mut body = vec![1, self.sites.len() as u8];
-        body.extend(self.sites.iter().map(|site| site.states.len() as u8));
-        body.extend(states().map(|state| state.mark as u8));
-        body.extend(self.first.to_be_bytes());
-        body.push(self.transitions.len() as u8);
-        for t in &self.transitions {
-            body.extend([t.site, t.from, t.to, t.votes as u8]);
-            body.extend(t.reads.to_be_bytes());
-            body.extend(t.writes.to_be_bytes());
-        }
-        [&(body.len() as u16).to_be_bytes()[..], &body].concat()
+    /// The sheet's record, or the ground on which the library does not write it.
+    pub fn record(&self) -> Result<Vec<u8>, u8> {
+        self.parts().write().map_err(Refusal::number)
     }
 
-    /// The sheet that a record holds, with generated names. None where the record is not of the
-    /// form that grounds 21 to 25 ask for.
-    pub fn from_bytes(bytes: &[u8]) -> Option<Sheet> {
-        let mut rest = bytes.get(4..)?;
-        let counts = take(&mut rest, usize::from(bytes[3]))?;
-        let mut sites = Vec::new();
-        for &count in counts {
-            let marks = take(&mut rest, usize::from(count))?;
-            let states = marks.iter().enumerate().map(|(place, &mark)| generated(place, mark));
-            sites.push(Site { name: String::new(), states: states.collect::<Option<_>>()? });
+    /// The sheet without its names.
+    fn parts(&self) -> Parts {
+        let marks = |site: &Site| site.states.iter().map(|state| state.mark).collect();
+        Parts {
+            sites: self.sites.iter().map(marks).collect(),
+            first: Messages::from_mask(self.first),
+            transitions: self.transitions.iter().map(Transition::part).collect(),
         }
-        let first = number(&mut rest)?;
-        let count = take(&mut rest, 1)?[0];
-        let read = (0..count).map(|_| transition(&mut rest));
-        let transitions: Vec<Transition> = read.collect::<Option<_>>()?;
+    }
+
+    /// The sheet that a record holds, with generated names. None where the library refuses it with
+    /// 21 to 25, so that it does not even have the form of one.
+    pub fn from_record(record: &[u8]) -> Option<Sheet> {
+        match Parts::read(record) {
+            Ok(parts) => Some(Sheet::named(&parts)),
+            Err(refusal) if refusal > Refusal::SheetRange => {
+                faulty::parts(record).as_ref().map(Sheet::named)
+            }
+            Err(_) => None,
+        }
+    }
+
+    /// Gives names to states and messages.
+    fn named(parts: &Parts) -> Sheet {
+        let transitions: Vec<Transition> = parts.transitions.iter().map(Transition::of).collect();
+        let first = parts.first.mask();
         let used = transitions.iter().fold(first, |used, t| used | t.reads | t.writes);
         let messages = (0..32 - used.leading_zeros()).map(|m| format!("m{m}")).collect();
-        let sheet = Sheet { title: String::new(), sites, messages, first, transitions };
-        (sheet.bytes() == bytes && sheet.transitions.iter().all(|t| sheet.holds(t)))
-            .then_some(sheet)
-    }
-
-    /// Whether a transition's site and states are there.
-    fn holds(&self, t: &Transition) -> bool {
-        let site = usize::from(t.site).checked_sub(1).and_then(|place| self.sites.get(place));
-        let states = site.map_or(0, |site| site.states.len());
-        usize::from(t.from.max(t.to)) < states
+        let sites = parts.sites.iter().map(|marks| Site::named(marks)).collect();
+        Sheet { title: String::new(), sites, messages, first, transitions }
     }
 
     /// A local state's name.
@@ -134,27 +110,23 @@ impl Sheet {
     }
 }
 
-/// A state of a record, named after its place.
-fn generated(place: usize, mark: u8) -> Option<State> {
-    Some(State { name: format!("s{place}"), mark: *MARKS.get(usize::from(mark))? })
+impl Site {
+    /// A site whose states are named after their places.
+    fn named(marks: &[Mark]) -> Site {
+        let state = |(place, &mark): (usize, &Mark)| State { name: format!("s{place}"), mark };
+        Site { name: String::new(), states: marks.iter().enumerate().map(state).collect() }
+    }
 }
 
-/// The first so many bytes of what is left.
-fn take<'a>(rest: &mut &'a [u8], count: usize) -> Option<&'a [u8]> {
-    let (taken, left) = rest.split_at_checked(count)?;
-    *rest = left;
-    Some(taken)
-}
+impl Transition {
+    fn of(part: &fjadrimor::Transition) -> Transition {
+        let &fjadrimor::Transition { site, from, to, votes, reads, writes } = part;
+        Transition { site, from, to, votes, reads: reads.mask(), writes: writes.mask(), line: 0 }
+    }
 
-/// A big-endian number of four bytes.
-fn number(rest: &mut &[u8]) -> Option<u32> {
-    Some(u32::from_be_bytes(take(rest, 4)?.try_into().ok()?))
-}
-
-fn transition(rest: &mut &[u8]) -> Option<Transition> {
-    let &[site, from, to, vote] = take(rest, 4)? else {
-        return None;
-    };
-    let (reads, writes) = (number(rest)?, number(rest)?);
-    Some(Transition { site, from, to, votes: vote == 1, reads, writes, line: 0 })
+    fn part(&self) -> fjadrimor::Transition {
+        let &Transition { site, from, to, votes, .. } = self;
+        let [reads, writes] = [self.reads, self.writes].map(Messages::from_mask);
+        fjadrimor::Transition { site, from, to, votes, reads, writes }
+    }
 }

@@ -1,6 +1,6 @@
 //! The notation of sheets: reading it. docs/SHEETS.md describes it.
 
-use super::model::{Mark, Sheet, Site, State, Transition, MARKS};
+use super::model::{Mark, Sheet, Site, State, Transition};
 use crate::place::Error;
 
 /// What a line's part gives, or the reason why it gives nothing.
@@ -70,7 +70,7 @@ fn state(sheet: &mut Sheet, name: &str, mark: &str) -> Said<()> {
     if site.states.iter().any(|state| state.name == name) {
         return Err(format!("site {number} has a state {name} already"));
     }
-    let known: Option<Mark> = MARKS.into_iter().find(|known| known.word() == mark);
+    let known = Mark::ALL.into_iter().find(|known| known.name() == mark);
     let mark = known.ok_or(format!("a state is working, abort or commit, not {mark}"))?;
     site.states.push(State { name, mark });
     counted(site.states.len(), "states at one site")

@@ -16,7 +16,7 @@ pub fn notation(sheet: &Sheet) -> String {
     for (place, site) in sheet.sites.iter().enumerate() {
         text += &format!("{}\n", sheet.site_called(place + 1));
         for state in &site.states {
-            text += &format!("  state {} {}\n", state.name, state.mark.word());
+            text += &format!("  state {} {}\n", state.name, state.mark.name());
         }
         text += "\n";
     }

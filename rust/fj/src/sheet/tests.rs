@@ -1,5 +1,6 @@
 //! The notation both ways, refusals in words, reports with names, and drawings.
 
+use super::library::Judgement;
 use super::model::Sheet;
 use super::{draw, judge, library, notation, refusal, show, taken, Input};
 use crate::input::{is_text, Content};
@@ -23,10 +24,20 @@ fn error(more: &str) -> (usize, String) {
     (error.line, error.reason)
 }
 
+/// A sheet's record.
+pub fn record(sheet: &Sheet) -> Vec<u8> {
+    sheet.record().expect("the sheet is written")
+}
+
+/// A sheet's judgement, or the ground on which it is not written or not judged.
+pub fn judged(sheet: &Sheet) -> Result<Judgement, u8> {
+    sheet.record().and_then(|record| library::judge(&record))
+}
+
 /// What is said of the refusal of a notation.
 fn refused(more: &str) -> String {
     let sheet = read(more);
-    let ground = library::judge(&sheet.bytes()).expect_err("the sheet is refused");
+    let ground = judged(&sheet).expect_err("the sheet is refused");
     refusal::told(ground, &sheet, "two.sheet")
 }
 
@@ -44,7 +55,7 @@ fn a_notation_is_its_bytes() {
         &[1, 0, 1, 1, 0, 0, 0, 1, 0, 0, 0, 2],
         &[2, 0, 1, 0, 0, 0, 0, 2, 0, 0, 0, 0],
     ];
-    assert_eq!(sheet.bytes(), [&[0, 38][..], &body.concat()].concat());
+    assert_eq!(record(&sheet), [&[0, 38][..], &body.concat()].concat());
 }
 
 #[test]
@@ -112,8 +123,9 @@ fn a_refusal_shows_its_place() {
 
 #[test]
 fn a_refusal_of_bytes_shows_the_number_of_the_transition() {
-    let bytes = read("1: q -> c reads go\n2: q -> c reads go").bytes();
-    let sheet = Sheet::from_bytes(&bytes).expect("the bytes have the form of a sheet");
+    let mut bytes = record(&read("1: q -> c reads go\n2: q -> c reads done"));
+    bytes[35] = 1;
+    let sheet = Sheet::from_record(&bytes).expect("the bytes have the form of a sheet");
     let told = "two: refused 27: a message is read by two sites (m0 at transition 1, 1: s0 -> s1 and m0 at transition 2, 2: s0 -> s1)";
     assert_eq!(refusal::told(27, &sheet, "two"), told);
 }
@@ -129,7 +141,7 @@ fn given(data: &[u8]) -> Result<Input, String> {
 
 #[test]
 fn bytes_and_text_are_told_apart() {
-    let bytes = read("1: q -> c reads go").bytes();
+    let bytes = record(&read("1: q -> c reads go"));
     let input = |data: &[u8]| given(data).map(|input| input.sheet.is_some());
     assert_eq!(input(&bytes), Ok(true));
     assert_eq!(input(&bytes[1..]), Ok(false));
@@ -152,9 +164,9 @@ fn shown_and_assembled_again() {
         if let Err(21..=29) = judged {
             continue;
         }
-        let sheet = Sheet::from_bytes(&bytes).expect("an accepted sheet has the form of one");
+        let sheet = Sheet::from_record(&bytes).expect("an accepted sheet has the form of one");
         let again = notation::read(&show::notation(&sheet)).expect("what is shown can be read");
-        assert_eq!(again.bytes(), bytes);
+        assert_eq!((record(&sheet), record(&again)), (bytes.clone(), bytes));
         if seen % 8 == 0 {
             assert!(draw::svg(&sheet, &judged).ends_with("</svg>\n"));
         }
@@ -163,11 +175,35 @@ fn shown_and_assembled_again() {
     assert!(seen > 1000, "{seen}");
 }
 
+/// A record that the library refuses with 26 to 29 still shows where: its parts are not written, on the
+/// same ground. One that is refused with 21 to 25 does not have the form of a sheet.
+#[test]
+fn a_refused_record_shows_its_place() {
+    let mut random = Random::new(5);
+    let mut seen = [0; 2];
+    for _ in 0..3000 {
+        let bytes = sheets::any_case(&mut random).bytes;
+        match (library::judge(&bytes), Sheet::from_record(&bytes)) {
+            (Err(21..=25), sheet) => {
+                assert!(sheet.is_none(), "{bytes:?}");
+                seen[0] += 1;
+            }
+            (Err(ground @ 26..=29), Some(sheet)) => {
+                assert_eq!(sheet.record(), Err(ground), "{bytes:?}");
+                assert!(refusal::told(ground, &sheet, "two").ends_with(')'), "{bytes:?}");
+                seen[1] += 1;
+            }
+            (_, sheet) => assert!(sheet.is_some(), "{bytes:?}"),
+        }
+    }
+    assert!(seen.iter().all(|&count| count > 150), "{seen:?}");
+}
+
 #[test]
 fn a_clash_shows_the_message_and_the_transition() {
     let text = small("").replace("first go", "first go done") + "1: q -> c reads go writes done";
     let sheet = notation::read(&text).expect("the notation is good");
-    assert_eq!(library::judge(&sheet.bytes()).err(), Some(31));
+    assert_eq!(judged(&sheet).err(), Some(31));
     let refusal = "refused 31: a transition can write a message that is still outstanding after its reading (done at 1: q -> c)";
     assert_eq!(refusal::text(31, Some(&sheet)), refusal);
     assert_eq!(refusal::told(31, &sheet, "two.sheet"), format!("two.sheet:10: {refusal}"));
@@ -193,7 +229,7 @@ fn the_figures_of_the_paper() {
             let judged = library::judge(bytes).expect("a figure is accepted");
             (bytes.len(), judged.states, judged.tolerance, judged.witness.map(|at| (at.0, at.2)))
         };
-        assert_eq!(summary(&sheet.bytes()), summary(&figure.bytes()), "{name}");
+        assert_eq!(summary(&record(&sheet)), summary(&figure.bytes()), "{name}");
     }
 }
 
@@ -201,7 +237,7 @@ fn the_figures_of_the_paper() {
 #[test]
 fn the_worked_example() {
     let two = notation::read(&gallery("central-two-phase-2")).expect("the gallery is good");
-    assert_eq!(two.bytes()[..2], [0, 113]);
+    assert_eq!(record(&two)[..2], [0, 113]);
     let text = "sheet 2 sites 9 states
 1.0 w y 2.0 n abort
 1.1 w y 2.0,2.1,2.2 n abort
@@ -214,13 +250,13 @@ fn the_worked_example() {
 verdict blocking at 2.1 condition 1
 tolerance not stated
 ";
-    assert_eq!(library::report(&two.bytes()), text.as_bytes());
+    assert_eq!(library::report(&record(&two)), text.as_bytes());
 }
 
 #[test]
 fn a_report_with_names() {
     let sheet = notation::read(&gallery("central-two-phase-2")).expect("the gallery is good");
-    let text = judge::text(&sheet, &library::judge(&sheet.bytes()).expect("it is accepted"));
+    let text = judge::text(&sheet, &judged(&sheet).expect("it is accepted"));
     let lines = [
         "sheet 2 sites 9 states",
         "site 2 slave",
@@ -238,7 +274,7 @@ fn a_report_with_names() {
 fn a_drawing_marks_what_is_blocked() {
     for (name, blocked) in [("central-two-phase-3", 2), ("central-three-phase-3", 0)] {
         let sheet = notation::read(&gallery(name)).expect("the gallery is good");
-        let svg = draw::svg(&sheet, &library::judge(&sheet.bytes()));
+        let svg = draw::svg(&sheet, &judged(&sheet));
         assert_eq!(svg.matches(">BLOCKED<").count(), blocked);
         assert_eq!(svg.matches("class=\"state blocked\"").count(), blocked);
         assert_eq!(svg.matches("<g").count(), svg.matches("</g>").count());

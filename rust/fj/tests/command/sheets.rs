@@ -43,3 +43,32 @@ fn an_error_and_a_refusal_are_told_with_their_line() {
     assert_eq!(printed, "refused 27\n");
     assert_eq!(said("judge --strict", twice.as_bytes()), said("judge", twice.as_bytes()));
 }
+
+/// What is assembled from the notation is the same bytes again when it is assembled from its bytes, and
+/// when it was shown in between.
+#[test]
+fn bytes_are_read_and_written_again() {
+    let sheet = small("1: q -> c reads go writes done votes yes\n2: q -> c reads done\n");
+    let assembled = |input: &[u8]| {
+        let (status, printed, wrong) = fj(&["sheet", "assemble", "-"], input);
+        assert_eq!((status, &*wrong), (Some(0), ""));
+        printed.into_bytes()
+    };
+    let bytes = assembled(sheet.as_bytes());
+    assert_eq!(bytes[..2], [0, 37]);
+    assert_eq!(assembled(&bytes), bytes);
+    let (_, shown, _) = fj(&["sheet", "show", "-"], &bytes);
+    assert_eq!(assembled(shown.as_bytes()), bytes);
+}
+
+#[test]
+fn a_notation_without_a_record_has_its_ground() {
+    let one_site = "site 1\nstate q working\n";
+    let why = "refused 23: the number of sites is not 2 to 4, or a site's number of states is not 1 to 8 \
+               (1 sites with 1 states)";
+    for command in ["judge", "judge --plain", "sheet assemble", "sheet show", "sheet draw"] {
+        assert_eq!(said(command, one_site.as_bytes()), trouble(&format!(": {why}")), "{command}");
+    }
+    let (_, printed, _) = fj(&["judge", "--plain", "-"], one_site.as_bytes());
+    assert_eq!(printed, "refused 23\n");
+}

@@ -178,7 +178,7 @@ fn caption(sheet: &Sheet, judged: Option<&Judgement>, local: Local) -> Vec<(Stri
     let mark = sheet.state(local).mark;
     let number = match mark {
         Mark::Working => format!("{}.{}", local.0, local.1),
-        _ => format!("{}.{} {}", local.0, local.1, mark.word()),
+        _ => format!("{}.{} {}", local.0, local.1, mark.name()),
     };
     let mut lines = vec![(number, "caption")];
     match judged.map(|judged| judged.of(local).decision) {
