@@ -290,6 +290,7 @@ impl Run {
             counts: Counts {
                 written: 0,
                 awaited: 0,
+                lowest: 0,
             },
         }
     }
@@ -304,6 +305,7 @@ impl Run {
             counts: Counts {
                 written,
                 awaited: 0,
+                lowest: 0,
             },
         }
     }
