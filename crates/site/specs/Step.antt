@@ -46,9 +46,13 @@ ruleOf s Conclude = concludeOf s
 unfoldable pub doneOf : Site → Step → Done
 doneOf s t = cond (soundOf s) (cond (namesOf s t) (ruleOf s t) (refused s 2)) (refused s 1)
 
--- "zero counts": no message written, nobody awaited
+-- so many messages written, and nobody awaited: then "0 when none is awaited" (02, Ask 4) stands for the lowest
+abbrev pub noneAwaited : ℕ → Counts
+noneAwaited m = record { written = m; awaited = 0; lowest = 0 }
+
+-- "zero counts": no message written either
 abbrev pub none : Counts
-none = record { written = 0; awaited = 0; lowest = 0 }
+none = noneAwaited 0
 
 -- "A step reports the number of messages written, counted in the set of receivers, and the number of sites still awaited",
 -- of the record as it then is; "the lowest awaited site besides the number, 0 when none is awaited" (02, Ask 4), of the same set.
