@@ -28,7 +28,7 @@ eightOf k =
 abbrev pub dayAnswer : ℕ
 dayAnswer = 26
 
--- accepted, written and place, then awaited, and the lowest of these
+-- accepted, written and place, eight bytes each; how many sites are awaited, and the lowest of them
 unfoldable pub dayBytes : Day → List ℕ
 dayBytes d = eightOf (d .accepted) ++ (eightOf (d .written) ++ (eightOf (d .place) ++ (d .awaited ∷ d .lowest ∷ [])))
 

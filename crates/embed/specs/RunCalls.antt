@@ -26,7 +26,7 @@ freshCall n l = cond (eqb (length l) runSize) (leaves (numberOf (freshOf n .outc
 abbrev pub eventAnswer : ℕ
 eventAnswer = 4
 
--- outcome, messages written, sites awaited, the lowest of these
+-- outcome, messages written, how many sites are awaited, and the lowest of them
 unfoldable pub ranBytes : Ran → List ℕ
 ranBytes a = outcomeByte (a .outcome) ∷ a .counts .written ∷ a .counts .awaited ∷ a .counts .lowest ∷ []
 

@@ -26,7 +26,7 @@ isStep k = leb 1 k && leb k 5
 abbrev pub stepAnswer : ℕ
 stepAnswer = 6
 
--- outcome, kind, receivers, messages written, sites awaited, the lowest of these
+-- outcome, kind, receivers, messages written, how many sites are awaited, and the lowest of them
 unfoldable pub answerBytes : Answer → List ℕ
 answerBytes a = outcomeByte (a .outcome) ∷ a .kind ∷ a .to ∷ a .counts .written ∷ a .counts .awaited ∷ a .counts .lowest ∷ []
 
