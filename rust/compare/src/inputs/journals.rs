@@ -2,6 +2,7 @@
 
 use super::runs::{Event, Events, RUN};
 use super::Random;
+use fjadrimor::calls::RUN_ANSWER;
 use second::journal::record_write;
 use second::run_bytes::{run_event, run_fresh};
 
@@ -24,7 +25,7 @@ impl Journals {
     /// A journal without a bad record, of a run of n sites with so many events.
     pub fn valid(&self, random: &mut Random, n: u8, events: usize) -> Vec<u8> {
         let kind = if random.once_in(2) { &self.calm } else { &self.stormy };
-        let (mut run, mut answer) = (vec![0; RUN], [0; 3]);
+        let (mut run, mut answer) = (vec![0; RUN], [0; RUN_ANSWER]);
         run_fresh(n, &mut run);
         let mut journal = vec![n];
         while journal.len() < 1 + 9 * events {
