@@ -1,6 +1,6 @@
 //! Compares runs, event by event.
 
-use crate::inputs::runs::{any_run, Event, Events, RUN};
+use crate::inputs::runs::{any_run, waiting_run, Event, Events, RUN};
 use crate::inputs::{pattern, Random};
 use crate::lowest::{Lowest, OUTCOMES};
 use crate::tally::Tally;
@@ -92,12 +92,15 @@ fn long_runs(comparison: &mut Comparison, count: u64) {
     }
 }
 
-/// One event in each of many runs, sound or not; now and then a slice of a wrong length.
+/// One event in each of many runs, sound or not, and in many of them a leader waits; now and then a
+/// slice of a wrong length.
 fn arbitrary_runs(comparison: &mut Comparison, count: u64) {
     let mut random = Random::new(3);
     let events = Events::new(4, 8);
     for _ in 0..count {
-        let mut run = any_run(&mut random);
+        let n = random.within(2, 12).min(8);
+        let waits = random.once_in(4);
+        let mut run = if waits { waiting_run(&mut random, n) } else { any_run(&mut random) };
         if random.once_in(64) {
             run.resize(random.below(200) as usize, 0);
         }
