@@ -37,7 +37,8 @@
  * it awaits nobody. At "3 awaited" a desk need not ring them all: ring this site. Once its message is
  * heard, the answer to that step names the next to ring. One that has stopped and said nothing is
  * awaited until its stop is noticed (FJ_NOTICE). Both are read off the record after the step, one
- * that is passed over too; a site that follows another or has decided awaits nobody.
+ * that is passed over too; a site that follows another or has decided awaits nobody. A refused step
+ * has zeros there, which say nothing: keep the answer of the last one that was accepted.
  *
  * A refused step has changed nothing, and nothing is to be sent. FJ_CONFLICT or FJ_WRONG_NAMES
  * means a message or a notice that the protocol cannot have sent, FJ_NOT_SOUND that the bytes are
