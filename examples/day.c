@@ -61,6 +61,8 @@ static uint8_t hands_over(uint8_t *run, const uint8_t *journal, size_t length, s
         putchar("qwpac"[run[2 + FJ_SITE * i + FJ_SITE_STATE]]);
     printf(": %lu accepted, %lu written, %d awaited", number(answer + FJ_DAY_ACCEPTED),
            number(answer + FJ_DAY_WRITTEN), answer[FJ_DAY_AWAITED]);
+    if (answer[FJ_DAY_LOWEST] != 0)
+        printf(" (ring ledger %d)", answer[FJ_DAY_LOWEST]);
     if (ground != 0)
         printf("; refused %d at byte %lu", ground, number(answer + FJ_DAY_PLACE));
     putchar('\n');

@@ -32,6 +32,14 @@
  * stopped (FJ_NOTICE); one that has stopped stays stopped. Never report a site that may still run,
  * and deliver each message at most once: otherwise nothing is promised.
  *
+ * RING THIS SITE
+ * Every answer ends with how many sites the acting one still awaits, and the lowest of them, 0 where
+ * it awaits nobody. At "3 awaited" a desk need not ring them all: ring this site. Once its message is
+ * heard, the answer to that step names the next to ring. One that has stopped and said nothing is
+ * awaited until its stop is noticed (FJ_NOTICE). Both are read off the record after the step, one
+ * that is passed over too; a site that follows another or has decided awaits nobody. A refused step
+ * has zeros there, which say nothing: keep the answer of the last one that was accepted.
+ *
  * A refused step has changed nothing, and nothing is to be sent. FJ_CONFLICT or FJ_WRONG_NAMES
  * means a message or a notice that the protocol cannot have sent, FJ_NOT_SOUND that the bytes are
  * no record of a site: do not post, and call a person.
@@ -120,9 +128,9 @@ enum { FJ_SITE = 8, FJ_RUN = 138, FJ_RECORD = 9, FJ_SHEET_PARTS = 810, FJ_TRANSI
 
 /* The least that answers need: bytes, and for the judge words too. */
 enum {
-    FJ_SITE_ANSWER = 5,
-    FJ_RUN_ANSWER = 3,
-    FJ_DAY_ANSWER = 25,
+    FJ_SITE_ANSWER = 6,
+    FJ_RUN_ANSWER = 4,
+    FJ_DAY_ANSWER = 26,
     FJ_FIELDS = 6,
     FJ_VERDICT = 206,
     FJ_WORDS = 4096
@@ -147,20 +155,27 @@ enum {
     FJ_SITE_ACKED = 7
 };
 
-/* Where the parts of a step's answer stand. */
+/* Where the parts of a step's answer stand. The lowest site awaited is the last of every answer. */
 enum {
     FJ_STEP_OUTCOME = 0,
     FJ_STEP_KIND = 1,
     FJ_STEP_RECEIVERS = 2,
     FJ_STEP_WRITTEN = 3,
-    FJ_STEP_AWAITED = 4
+    FJ_STEP_AWAITED = 4,
+    FJ_STEP_LOWEST = 5
 };
 
 /* Where the parts of an event's answer stand. */
-enum { FJ_EVENT_OUTCOME = 0, FJ_EVENT_WRITTEN = 1, FJ_EVENT_AWAITED = 2 };
+enum { FJ_EVENT_OUTCOME = 0, FJ_EVENT_WRITTEN = 1, FJ_EVENT_AWAITED = 2, FJ_EVENT_LOWEST = 3 };
 
-/* Where the parts of a day's answer stand: three numbers of 8 bytes, big-endian, and one byte. */
-enum { FJ_DAY_ACCEPTED = 0, FJ_DAY_WRITTEN = 8, FJ_DAY_PLACE = 16, FJ_DAY_AWAITED = 24 };
+/* Where the parts of a day's answer stand: three numbers of 8 bytes, big-endian, and two bytes. */
+enum {
+    FJ_DAY_ACCEPTED = 0,
+    FJ_DAY_WRITTEN = 8,
+    FJ_DAY_PLACE = 16,
+    FJ_DAY_AWAITED = 24,
+    FJ_DAY_LOWEST = 25
+};
 
 /* Where a sheet's parts stand; FJ_PARTS_NUMBER is the number of transitions. */
 enum {
@@ -198,12 +213,12 @@ enum { FJ_MARK_WORKING = 0, FJ_MARK_ABORT = 1, FJ_MARK_COMMIT = 2 };
  * m:    the kind of a delivered message; else 0.
  * v:    the vote at a begin or a delivery of Start; else 0.
  *
- * Written to the first five bytes of answer: the outcome; the kind of the messages written, 0 for
- * none; the set of their receivers; how many messages; how many sites are still awaited. Written to
- * site: its bytes after the step.
+ * Written to the first six bytes of answer: the outcome; the kind of the messages written, 0 for
+ * none; the set of their receivers; how many messages; how many sites are still awaited, and the
+ * lowest of these, 0 for none. Written to site: its bytes after the step.
  *
  * Tested in this order:
- *   15  answer has fewer than 5 bytes: nothing at all is written
+ *   15  answer has fewer than 6 bytes: nothing at all is written
  *    1  site is not 8 bytes long, or its state is above 4
  *   13  k is not 1 to 5
  *   14  v is not 1 or 2 in a begin or a delivery of Start, or a field that the step does not use
@@ -212,7 +227,7 @@ enum { FJ_MARK_WORKING = 0, FJ_MARK_ABORT = 1, FJ_MARK_COMMIT = 2 };
  *    2  o is not a site of 1 to n, a notice about itself, m is no message, or its ends are wrong
  *    5  a begin, take over or conclude that its rule does not allow
  *    6  a conflict
- * A refusal but 15 leaves site and writes outcome 2 and four zeros.
+ * A refusal but 15 leaves site and writes outcome 2 and five zeros.
  */
 uint8_t fj_site_step(uint8_t *site, size_t site_len, uint8_t k, uint8_t o, uint8_t m, uint8_t v,
                      uint8_t *answer, size_t answer_len);
@@ -243,14 +258,14 @@ uint8_t fj_run_fresh(uint8_t n, uint8_t *run, size_t run_len);
  * o, m, v: as in a site step.
  * x:  for a stop inside a step the set of receivers whose messages still leave, any set; else 0.
  *
- * Written to the first three bytes of answer: the outcome (an accepted stop is taken); how many
- * messages were written; how many sites the acting site still awaits, 0 after a stop. Written to
- * run: its bytes after the event. A run that comes from fj_run_fresh stays sound. Any other sound
- * run may be left not sound by an accepted event, and then the next one is refused with 1
- * (docs/DECISIONS.md, "Runs").
+ * Written to the first four bytes of answer: the outcome (an accepted stop is taken); how many
+ * messages were written; how many sites the acting site still awaits, and the lowest of these, both
+ * 0 after a stop. Written to run: its bytes after the event. A run that comes from fj_run_fresh
+ * stays sound. Any other sound run may be left not sound by an accepted event, and then the next one
+ * is refused with 1 (docs/DECISIONS.md, "Runs").
  *
  * Tested in this order:
- *   15  answer has fewer than 3 bytes: nothing at all is written
+ *   15  answer has fewer than 4 bytes: nothing at all is written
  *    1  run is not 138 bytes long, or a state is above 4 at any of the eight places
  *   13  k is unknown
  *   14  v is not 1 or 2 in a begin or a delivery of Start, or a field that k does not use is not 0
@@ -260,7 +275,7 @@ uint8_t fj_run_fresh(uint8_t n, uint8_t *run, size_t run_len);
  *    4  no such message is outstanding; the noticed site has not stopped, or is known to have
  *    5  a begin, take over or conclude that its rule does not allow
  *    6  a conflict
- * A refusal but 15 leaves run and writes outcome 2 and two zeros.
+ * A refusal but 15 leaves run and writes outcome 2 and three zeros.
  */
 uint8_t fj_run_event(uint8_t *run, size_t run_len, uint8_t k, uint8_t s, uint8_t o, uint8_t m,
                      uint8_t v, uint8_t x, uint8_t *answer, size_t answer_len);
@@ -275,17 +290,18 @@ uint8_t fj_run_event(uint8_t *run, size_t run_len, uint8_t k, uint8_t s, uint8_t
  *          until one is refused or no byte is left. A journal is of one run, that is of one entry:
  *          keep one for each, since what follows behind a close is taken for events of the same run.
  *
- * Written to the first 25 bytes of answer: how many events were accepted, taken or passed over; how
- * many messages they wrote; the place, the byte at which the refused record starts, or journal_len where none is
- * refused; and how many sites the acting site of the last accepted event still awaits, 0 after a
- * stop and where none was accepted. The first three are 8 bytes each, big-endian. Written to run:
- * its bytes after the accepted events. So with a refusal, too, what was accepted counts: whoever
- * puts the record at that place right can hand over the journal from there on.
+ * Written to the first 26 bytes of answer: how many events were accepted, taken or passed over; how
+ * many messages they wrote; the place, the byte at which the refused record starts, or journal_len
+ * where none is refused; how many sites the acting site of the last accepted event still awaits, and
+ * the lowest of these, both 0 after a stop and where none was accepted. The first three are 8 bytes
+ * each, big-endian. Written to run: its bytes after the accepted events. So with a refusal, too, what
+ * was accepted counts: whoever puts the record at that place right can hand over the journal from
+ * there on.
  *
  * Tested in this order:
- *   15  answer has fewer than 25 bytes: nothing at all is written
+ *   15  answer has fewer than 26 bytes: nothing at all is written
  *    1  run is not 138 bytes long, or a state is above 4 at any of the eight places: before the
- *       journal is looked at, also where it is empty. Leaves run and writes 25 zeros
+ *       journal is looked at, also where it is empty. Leaves run and writes 26 zeros
  * and then, for each record:
  *   10 to 14  as fj_record_read has them
  *    1 to 6   as fj_run_event has them: 1 where the run is not sound, at the start or after some
@@ -331,8 +347,9 @@ uint8_t fj_record_write(uint8_t k, uint8_t s, uint8_t o, uint8_t m, uint8_t v, u
                         uint8_t *room, size_t room_len, size_t at);
 
 /*
- * Rehearses a journal: one byte n, then records. Puts the text (a line for each record, and the
- * letters of the sites) at the front of text and returns its length; there is no 0 byte at its end.
+ * Rehearses a journal: one byte n, then records. Puts the text at the front of text and returns its
+ * length; there is no 0 byte at its end. It has a line for each record: its place, what became of it,
+ * the letters of the sites, and, unless it is refused, the lowest site that the acting one awaits.
  * Only the first 65,536 bytes of the input are taken. A journal that cannot be read is told in the
  * text, as docs/RULES.md has it. Returns 0, with nothing written, where text has fewer bytes than
  * FJ_REHEARSAL_ROOM(input_len); 189344 bytes are enough for every input.

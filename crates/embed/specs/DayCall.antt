@@ -24,16 +24,20 @@ eightOf k =
     ∷ k % 256
     ∷ []
 
--- the first 25 bytes of the answer: accepted, written and place, then awaited
+-- the answer takes so many bytes of its room
+abbrev pub dayAnswer : ℕ
+dayAnswer = 26
+
+-- accepted, written and place, eight bytes each; how many sites are awaited, and the lowest of them
 unfoldable pub dayBytes : Day → List ℕ
-dayBytes d = eightOf (d .accepted) ++ (eightOf (d .written) ++ (eightOf (d .place) ++ (d .awaited ∷ [])))
+dayBytes d = eightOf (d .accepted) ++ (eightOf (d .written) ++ (eightOf (d .place) ++ (d .awaited ∷ d .lowest ∷ [])))
 
 -- the refusal, the run as after the accepted events, and the answer, which is written with a refusal too
 abbrev pub dayLeaves : Stepped → List ℕ → LeftBoth
-dayLeaves x room = leavesBoth (x .day .refusal) (runBytes (x .run)) (dayBytes (x .day) ++ drop 25 room)
+dayLeaves x room = leavesBoth (x .day .refusal) (runBytes (x .run)) (dayBytes (x .day) ++ drop dayAnswer room)
 
 -- 15 comes first, with nothing touched; then 1 for bytes that are no run, with zeros; then the journal
 unfoldable pub dayCall : List ℕ → List ℕ → List ℕ → LeftBoth
 dayCall run journal room =
-    cond (ltb (length room) 25) (leavesBoth 15 run room)
-    (cond (isRunBytes run) (dayLeaves (dayOf (runIn run) journal) room) (leavesBoth 1 run (replicate 25 0 ++ drop 25 room)))
+    cond (ltb (length room) dayAnswer) (leavesBoth 15 run room)
+    (cond (isRunBytes run) (dayLeaves (dayOf (runIn run) journal) room) (leavesBoth 1 run (replicate dayAnswer 0 ++ drop dayAnswer room)))

@@ -5,10 +5,13 @@ ghost use mathlib.Core.List.{_++_};
 ghost use Prim.Native.Nat.{_≤_};
 ghost use lib.ListN.{length, drop};
 ghost use Rattle.embed.specs.Bytes.{leavesBoth};
-ghost use Rattle.embed.specs.DayCall.{eightOf, dayBytes, dayLeaves, dayCall};
+ghost use Rattle.embed.specs.DayCall.{eightOf, dayAnswer, dayBytes, dayLeaves, dayCall};
 ghost use Rattle.packed.specs.Bytes.{runSize, runIn};
 ghost use Rattle.day.specs.Day.{dayOf};
 use day::Day;
+
+// The bytes of a day's answer.
+const DAY_ANSWER: usize = 26;
 
 // A number's eight bytes, the highest first.
 fn eight(number: usize) -> [u8; 8]
@@ -26,20 +29,20 @@ fn eight(number: usize) -> [u8; 8]
     ]
 }
 
-// The answer's 25 bytes.
+// The answer: three numbers of eight bytes, how many sites are awaited, and the lowest of them.
 fn put_day(room: &mut [u8], day: Day)
-    requires { ⌜ 25 ≤ length (now room) ⌝ }
-    ensures { λ _. ⌜ now (room .exit) ≡ dayBytes day ++ drop 25 (now (room .entry)) ⌝ }
+    requires { ⌜ dayAnswer ≤ length (now room) ⌝ }
+    ensures { λ _. ⌜ now (room .exit) ≡ dayBytes day ++ drop dayAnswer (now (room .entry)) ⌝ }
 {
     let written = text::put(room, 0, &eight(day.accepted));
     let place = text::put(room, written, &eight(day.written));
     let awaited = text::put(room, place, &eight(day.place));
-    room[awaited] = day.awaited;
+    text::put(room, awaited, &[day.awaited, day.lowest]);
 }
 
 // The journal of the run whose bytes these are. Returns 0 or the refusal.
 fn take_journal(run: &mut [u8], journal: &[u8], answer: &mut [u8]) -> u8
-    requires { ⌜ (length (now run) ≡ runSize) × (25 ≤ length (now answer)) ⌝ }
+    requires { ⌜ (length (now run) ≡ runSize) × (dayAnswer ≤ length (now answer)) ⌝ }
     ensures { λ r. ⌜ leavesBoth r (now (run .exit)) (now (answer .exit)) ≡ dayLeaves (dayOf (runIn (now (run .entry))) (now (journal .entry))) (now (answer .entry)) ⌝ }
 {
     let stepped = day::after_journal(packed::read_run(run), journal);
@@ -54,11 +57,11 @@ fn take_journal(run: &mut [u8], journal: &[u8], answer: &mut [u8]) -> u8
 pub extern "C" fn fj_run_journal(run: &mut [u8], journal: &[u8], answer: &mut [u8]) -> u8
     ensures { λ r. ⌜ leavesBoth r (now (run .exit)) (now (answer .exit)) ≡ dayCall (now (run .entry)) (now (journal .entry)) (now (answer .entry)) ⌝ }
 {
-    if answer.len() < 25 {
+    if answer.len() < DAY_ANSWER {
         return 15;
     }
     if !packed::is_run(run) {
-        text::put(answer, 0, &[0u8; 25]);
+        text::put(answer, 0, &[0u8; DAY_ANSWER]);
         return 1;
     }
     take_journal(run, journal, answer)

@@ -60,14 +60,14 @@ all says (row ∷ rows) = says row × all says rows
 
 -- ---- the words of the rows
 
--- taken: the record then, the kind and the receivers of what is written, how many messages, how many sites awaited
-abbrev pub answerTaken : Site → ℕ → ℕ → ℕ → ℕ → Answer
-answerTaken s kind to written awaited =
-    record { site = s; outcome = Taken; kind = kind; to = to; counts = record { written = written; awaited = awaited } }
+-- taken: the record then, the kind and the receivers of what is written, how many messages, how many sites awaited, and the lowest of these
+abbrev pub answerTaken : Site → ℕ → ℕ → ℕ → ℕ → ℕ → Answer
+answerTaken s kind to written awaited lowest =
+    record { site = s; outcome = Taken; kind = kind; to = to; counts = record { written = written; awaited = awaited; lowest = lowest } }
 
 -- taken, without a message, and nobody is awaited
 abbrev pub quietly : Site → Answer
-quietly s = answerTaken s 0 0 0 0
+quietly s = answerTaken s 0 0 0 0 0
 
 -- passed over: the record as it was, no message, nobody awaited
 abbrev pub answerPassed : Site → Answer
@@ -89,20 +89,20 @@ starred =
     fresh 1 (refusedRun (freshRun 0) 1)
     -- *2 fresh n = 9: 1
     ∷ fresh 9 (refusedRun (freshRun 0) 1)
-    -- *3 begin yes, n = 8, site 1: 7 messages, 7 awaited
-    ∷ step (λ s. s ≡ freshSite 8 1) (Begin Yes) (λ s. answerTaken (inState s W) start (othersOf 8 1) 7 7)
+    -- *3 begin yes, n = 8, site 1: 7 messages, 7 awaited; the lowest of them is 2 (02, Ask 4)
+    ∷ step (λ s. s ≡ freshSite 8 1) (Begin Yes) (λ s. answerTaken (inState s W) start (othersOf 8 1) 7 7 2)
     -- *4 begin at site 2: 5
     ∷ any (λ (v : Vote). step (λ s. s .number ≡ 2) (Begin v) (λ s. refusal s 5))
     -- *5 Start yes at q: w, one Yes
-    ∷ step (λ s. (1 < s .number) × (s .leader ≡ 1) × (s .state ≡ Q)) (Start 1 Yes) (λ s. answerTaken (inState s W) say-yes (weightOf 1) 1 0)
+    ∷ step (λ s. (1 < s .number) × (s .leader ≡ 1) × (s .state ≡ Q)) (Start 1 Yes) (λ s. answerTaken (inState s W) say-yes (weightOf 1) 1 0 0)
     -- *6 Move-p at q: 6
     ∷ any (λ (j : ℕ). step (λ s. (j < s .number) × (s .leader ≤ j) × (s .state ≡ Q)) (Deliver move-p j) (λ s. refusal s 6))
     -- *7 site 3 follows 2, Move-p from 1: passed over
     ∷ step (λ s. (s .number ≡ 3) × (s .leader ≡ 2)) (Deliver move-p 1) answerPassed
     -- *8 Move-w from 2 at p, site 3: w, Ack, follows 2
-    ∷ step (λ s. (s .number ≡ 3) × (s .leader ≤ 2) × (s .state ≡ P)) (Deliver move-w 2) (λ s. answerTaken (following (inState s W) 2) ack (weightOf 2) 1 0)
+    ∷ step (λ s. (s .number ≡ 3) × (s .leader ≤ 2) × (s .state ≡ P)) (Deliver move-w 2) (λ s. answerTaken (following (inState s W) 2) ack (weightOf 2) 1 0 0)
     -- *9 take over in q, site 2 of 3, 1 stopped: a, one Abort
-    ∷ step (second-of 3 Q) TakeOver (λ s. answerTaken (leading (inState s A)) abort (weightOf 3) 1 0)
+    ∷ step (second-of 3 Q) TakeOver (λ s. answerTaken (leading (inState s A)) abort (weightOf 3) 1 0 0)
     -- *10 take over in p, site 2 of 2, 1 stopped: p, 0 messages; conclude then gives c
     ∷ steps (second-of 2 P) TakeOver (λ s. quietly (leading (inState s P))) Conclude (λ s. quietly (inState s C))
     -- *11 record 00 07 02.. (9 bytes): 12

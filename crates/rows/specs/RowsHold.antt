@@ -5,11 +5,11 @@ use mathlib.Core.Bool.{true, and-false}
 use mathlib.Core.List.{[]}
 use mathlib.Core.Path.{_≡_, refl}
 use native.Mathlib.Omega.{arith}
-use lib.Count.{ones}
+use lib.Count.{ones, trailingZeros}
 use lib.Dec.{lit≤}
 use lib.ListN.{length}
 use borrow.Author.Tests.{lt-ltb, le-leb, le-ltb, ne-eqb}
-use Rattle.sets.specs.Sets.{isSite, weightOf, union, minus, without, subset, allOf, othersOf, belowOf, countOf}
+use Rattle.sets.specs.Sets.{isSite, weightOf, union, minus, without, subset, allOf, othersOf, belowOf, countOf, lowestOf}
 use Rattle.site.specs.declared.State.the-variants.{P}
 use Rattle.site.specs.declared.Vote.the-variants.{Yes}
 use Rattle.site.specs.declared.Site.{Site}
@@ -36,7 +36,7 @@ a and b = (a, b)
 
 -- the statement: each row of the list holds
 pub all-hold : all holds starred
-unfolding freshOf readOf lengthOf stepOf doneOf endsOf beginOf startOf deliverOf obeyOf takeOverOf concludeOf settleOf answered awaitedOf polls collects toAll subset union othersOf belowOf without minus allOf weightOf isSite countOf ones
+unfolding freshOf readOf lengthOf stepOf doneOf endsOf beginOf startOf deliverOf obeyOf takeOverOf concludeOf settleOf answered awaitedOf polls collects toAll subset union othersOf belowOf without minus allOf weightOf isSite countOf ones lowestOf trailingZeros
 all-hold =
     refl
     and refl

@@ -12,7 +12,7 @@ use Rattle.site.specs.declared.Site.{Site}
 use Rattle.site.specs.declared.Answer.{Answer}
 use Rattle.site.specs.declared.Counts.{Counts}
 use Rattle.site.specs.Site.{start, namesOf}
-use Rattle.site.specs.Step.{stepOf, none, numberOf}
+use Rattle.site.specs.Step.{stepOf, noneAwaited, none, numberOf}
 use Rattle.run.specs.declared.Run.{Run}
 use Rattle.run.specs.declared.Event.{Event}
 use Rattle.run.specs.declared.Event.the-variants.{Act, Stop, Cut}
@@ -27,7 +27,7 @@ refusedRun r g = record { run = r; outcome = Refused g; counts = none }
 
 -- what was taken, with so many messages written and nobody awaited
 abbrev pub takenRun : Run → ℕ → Ran
-takenRun r m = record { run = r; outcome = Taken; counts = record { written = m; awaited = 0 } }
+takenRun r m = record { run = r; outcome = Taken; counts = noneAwaited m }
 
 -- ---- fresh
 
@@ -118,11 +118,12 @@ outcomeOf r (Act s t) = stepOf (siteAt r s) t .outcome
 outcomeOf r (Stop s) = Taken
 outcomeOf r (Cut s t x) = Taken
 
--- a step reports as the site does; a stop "counts only messages that leave", and "After any stop the awaited number is 0"
+-- a step reports as the site does, whom it awaits too (02, Ask 4); a stop "counts only messages that leave", and "After any stop the awaited
+-- number is 0", and so is the lowest
 abbrev pub reportOf : Run → Event → Counts
 reportOf r (Act s t) = stepOf (siteAt r s) t .counts
 reportOf r (Stop s) = none
-reportOf r (Cut s t x) = record { written = countOf (both (stepOf (siteAt r s) t .to) x); awaited = 0 }
+reportOf r (Cut s t x) = noneAwaited (countOf (both (stepOf (siteAt r s) t .to) x))
 
 -- ---- the event
 

@@ -8,6 +8,7 @@ ghost use lib.Dec.{eqb, leb};
 ghost use lib.ListN.{length};
 ghost use Rattle.sets.specs.Sets.{has, subset, belowOf, withSite};
 ghost use Rattle.site.specs.Site.{soundOf};
+ghost use Rattle.site.specs.Step.{noneAwaited};
 ghost use Rattle.run.specs.Run.{freshSite, freshRun};
 ghost use Rattle.run.specs.Sound.{every, soundPlace, soundRun};
 ghost use Rattle.run.specs.Event.{refusedRun, takenRun, freshOf, gotBy, gotFrom, wholeStep, halting, applied, goesOf, eventOf};
@@ -279,6 +280,17 @@ fn halt(site: Site, kind: u8, to: u8) -> Effect
     }
 }
 
+// So many messages written, and nobody awaited.
+fn none_awaited(written: u8) -> Counts
+    ensures { λ r. ⌜ r ≡ noneAwaited written ⌝ }
+{
+    Counts {
+        written,
+        awaited: 0,
+        lowest: 0,
+    }
+}
+
 impl Run {
     // The run as it was, with a ground and zero counts.
     fn refused(self, ground: u8) -> Ran
@@ -287,10 +299,7 @@ impl Run {
         Ran {
             run: self,
             outcome: Outcome::Refused(ground),
-            counts: Counts {
-                written: 0,
-                awaited: 0,
-            },
+            counts: none_awaited(0),
         }
     }
 
@@ -301,10 +310,7 @@ impl Run {
         Ran {
             run: self,
             outcome: Outcome::Taken,
-            counts: Counts {
-                written,
-                awaited: 0,
-            },
+            counts: none_awaited(written),
         }
     }
 

@@ -46,14 +46,19 @@ ruleOf s Conclude = concludeOf s
 unfoldable pub doneOf : Site → Step → Done
 doneOf s t = cond (soundOf s) (cond (namesOf s t) (ruleOf s t) (refused s 2)) (refused s 1)
 
--- "zero counts": no message written, nobody awaited
+-- so many messages written, and nobody awaited: then "0 when none is awaited" (02, Ask 4) stands for the lowest
+abbrev pub noneAwaited : ℕ → Counts
+noneAwaited m = record { written = m; awaited = 0; lowest = 0 }
+
+-- "zero counts": no message written either
 abbrev pub none : Counts
-none = record { written = 0; awaited = 0 }
+none = noneAwaited 0
 
 -- "A step reports the number of messages written, counted in the set of receivers, and the number of sites still awaited",
--- of the record as it then is; a refusal reports zeros
+-- of the record as it then is; "the lowest awaited site besides the number, 0 when none is awaited" (02, Ask 4), of the same set.
+-- A refusal reports zeros
 abbrev pub counted : Site → ℕ → Counts
-counted s to = record { written = countOf to; awaited = countOf (awaitedOf s) }
+counted s to = record { written = countOf to; awaited = countOf (awaitedOf s); lowest = lowestOf (awaitedOf s) }
 
 -- "When an answer is an enum, a definition gives this paper's number and values for each of its cases": an outcome's number is its ground,
 -- 0 where there is none, and its values are what is reported. Taken and passed are told apart by a byte of their own (`outcomeByte` in embed)
@@ -89,7 +94,3 @@ stepOf s t = answered (doneOf s t)
 -- "Refused: run and site come back unchanged, no message, zero counts"
 abbrev pub refusal : Site → ℕ → Answer
 refusal s g = record { site = s; outcome = Refused g; kind = 0; to = 0; counts = none }
-
--- the lowest site awaited, 0 for none
-unfoldable pub awaitedFirst : Site → ℕ
-awaitedFirst s = lowestOf (awaitedOf s)

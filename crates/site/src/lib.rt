@@ -8,7 +8,7 @@ ghost use Rattle.sets.specs.Sets.{belowOf, subset};
 ghost use Rattle.site.specs.Site.{isQ, isW, isP, inState, soundOf, endsOf, toAll, inRun, namesOf, polls, collects, awaitedOf, refused, passed, taken};
 ghost use Rattle.site.specs.First.{beginOf, startOf, voteOf, tallyOf};
 ghost use Rattle.site.specs.Leader.{movePAt, moveWAt, commitAt, abortAt, orderAt, replied, obeyOf, ackOf, overIn, takeOverOf, settleOf};
-ghost use Rattle.site.specs.Step.{noticeOf, concludeOf, deliverOf, ruleOf, doneOf, kindOf, counted, countsOf, answered, stepOf, awaitedFirst};
+ghost use Rattle.site.specs.Step.{noticeOf, concludeOf, deliverOf, ruleOf, doneOf, kindOf, counted, countsOf, answered, stepOf};
 
 // The states: first, wait, prepared, abort, commit.
 pub enum State {
@@ -61,10 +61,11 @@ pub struct Done {
     pub to: u8,
 }
 
-// The numbers that a step reports: messages written, sites still awaited.
+// What a step reports: messages written, how many sites are still awaited, and the lowest of these, 0 where none is.
 pub struct Counts {
     pub written: u8,
     pub awaited: u8,
+    pub lowest: u8,
 }
 
 // A step's answer. Where nobody is written to, the kind is 0.
@@ -381,13 +382,6 @@ impl Site {
         0
     }
 
-    // The lowest site awaited, 0 for none.
-    pub fn first_awaited(self) -> u8
-        ensures { λ r. ⌜ r ≡ awaitedFirst self ⌝ }
-    {
-        sets::lowest(self.awaited())
-    }
-
     fn begin(self, vote: Vote) -> Done
         ensures { λ r. ⌜ r ≡ beginOf self vote ⌝ }
     {
@@ -650,7 +644,7 @@ fn kind_of(kind: u8, to: u8) -> u8
     kind
 }
 
-// Messages written and sites awaited; a refusal reports none.
+// Messages written, how many sites are awaited and the lowest; a refusal reports none.
 fn counts_of(outcome: Outcome, site: Site, to: u8) -> Counts
     ensures { λ r. ⌜ r ≡ countsOf outcome site to ⌝ }
 {
@@ -660,6 +654,7 @@ fn counts_of(outcome: Outcome, site: Site, to: u8) -> Counts
         Outcome::Refused(_) => Counts {
             written: 0,
             awaited: 0,
+            lowest: 0,
         },
     }
 }
@@ -667,8 +662,10 @@ fn counts_of(outcome: Outcome, site: Site, to: u8) -> Counts
 fn counted(site: Site, to: u8) -> Counts
     ensures { λ r. ⌜ r ≡ counted site to ⌝ }
 {
+    let awaited = site.awaited();
     Counts {
         written: sets::count(to),
-        awaited: sets::count(site.awaited()),
+        awaited: sets::count(awaited),
+        lowest: sets::lowest(awaited),
     }
 }

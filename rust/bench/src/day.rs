@@ -6,10 +6,11 @@ use crate::journal::FULL;
 use crate::plain;
 use crate::row::{Round, Row};
 use crate::side::Side;
-use compare::day::{Days, ANSWER};
+use compare::day::Days;
 use compare::inputs::days::Handovers;
 use compare::inputs::runs::RUN;
 use compare::inputs::Random;
+use fjadrimor::calls::DAY_ANSWER;
 use std::hint::black_box;
 
 /// The bytes of a record.
@@ -79,7 +80,7 @@ fn closes(from: Run, records: usize) -> Vec<u8> {
     let mut journal = Vec::new();
     while journal.len() < RECORD * records {
         let mut run = from;
-        plain::run_journal(&mut run, &BEGIN, &mut [0; ANSWER]);
+        plain::run_journal(&mut run, &BEGIN, &mut [0; DAY_ANSWER]);
         journal.extend(BEGIN);
         journal.extend(handovers.accepted(&mut random, &mut run, records));
     }
@@ -90,7 +91,7 @@ fn closes(from: Run, records: usize) -> Vec<u8> {
 /// Takes a day, one call for each close.
 fn take(program: Days, from: &Run, mut journal: &[u8]) {
     let take = black_box(program.journal);
-    let (mut run, mut answer) = ([0; RUN], [0; ANSWER]);
+    let (mut run, mut answer) = ([0; RUN], [0; DAY_ANSWER]);
     while !journal.is_empty() {
         run.copy_from_slice(from);
         black_box(take(&mut run, journal, &mut answer));
@@ -148,9 +149,9 @@ mod tests {
         let mut run = posted();
         for record in deliveries(run).chunks(RECORD) {
             let [k, s, o, m, v, x] = record[3..] else { unreachable!() };
-            let mut answer = [0; 3];
+            let mut answer = [0; 4];
             let refusal = plain::run_event(&mut run, k, s, o, m, v, x, &mut answer);
-            assert_eq!((refusal, answer), (0, [1, 0, 0]), "{record:?}");
+            assert_eq!((refusal, answer), (0, [1, 0, 0, 0]), "{record:?}");
         }
         assert_eq!(deliveries(posted()).len(), 140 * RECORD);
         assert_eq!(deliveries(run).len(), 0);

@@ -6,6 +6,7 @@ use crate::side::Side;
 use compare::inputs::runs::{any_run, Event, Events, RUN};
 use compare::inputs::Random;
 use compare::run::{happen, Runs};
+use fjadrimor::calls::RUN_ANSWER;
 use std::hint::black_box;
 
 type Call = (Vec<u8>, Event);
@@ -20,7 +21,7 @@ fn in_runs_from_fresh(n: u8) -> Vec<Call> {
         plain::run_fresh(n, &mut run);
         for _ in 0..8 * n {
             let event = events.next(&mut random, &run);
-            let after = happen(Side::Plain.runs(), &run, event, 3).1;
+            let after = happen(Side::Plain.runs(), &run, event, RUN_ANSWER).1;
             calls.push((run, event));
             run = after;
         }
@@ -43,7 +44,7 @@ fn in_arbitrary_runs() -> Vec<Call> {
 /// Makes all calls, each on a copy of its run.
 fn make(program: Runs, calls: &[Call]) {
     let happens = black_box(program.event);
-    let mut answer = [0; 3];
+    let mut answer = [0; RUN_ANSWER];
     let mut run = [0; RUN];
     for (before, [k, s, o, m, v, x]) in calls {
         run.copy_from_slice(before);

@@ -5,6 +5,7 @@ use crate::row::{Round, Row};
 use crate::side::Side;
 use compare::inputs::{steps, Random};
 use compare::site::{any_call, Call, SiteStep};
+use fjadrimor::calls::SITE_ANSWER;
 use std::hint::black_box;
 
 /// Random calls with slices of the right length that `wanted` picks, by n and by outcome.
@@ -13,7 +14,7 @@ fn calls(wanted: impl Fn(u8, u8) -> bool) -> Vec<Call> {
     let steps = steps(8);
     let mut found = Vec::new();
     while found.len() < 4096 {
-        let call = Call { room: 5, ..any_call(&mut random, &steps) };
+        let call = Call { room: SITE_ANSWER, ..any_call(&mut random, &steps) };
         if call.site.len() == 8 && wanted(call.site[0], call.made(plain::site_step).2[0]) {
             found.push(call);
         }
@@ -24,7 +25,7 @@ fn calls(wanted: impl Fn(u8, u8) -> bool) -> Vec<Call> {
 /// Makes all calls, each on a copy of its record.
 fn make(program: SiteStep, calls: &[Call]) {
     let program = black_box(program);
-    let mut answer = [0; 5];
+    let mut answer = [0; SITE_ANSWER];
     let mut site = [0; 8];
     for call in calls {
         site.copy_from_slice(&call.site);

@@ -29,7 +29,7 @@ fn journals_are_the_same() {
     };
     let testing = Journaling { rehearse: plain::rehearse_testing, ..PLAIN.journaling() };
     assert!(compare(PLAIN.journaling(), second, 2000).finish());
-    assert!(compare(testing, second, 200).finish());
+    assert!(compare(testing, second, 1000).finish());
 }
 
 #[test]

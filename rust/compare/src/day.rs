@@ -2,8 +2,10 @@
 
 use crate::inputs::days::{Handover, Handovers};
 use crate::inputs::{pattern, Random};
+use crate::lowest::Lowest;
 use crate::run::RunEvent;
 use crate::tally::Tally;
+use fjadrimor::calls::{DAY_ANSWER, RUN_ANSWER};
 use second::journal::RECORD;
 use std::collections::{BTreeMap, BTreeSet};
 
@@ -19,9 +21,6 @@ pub struct Days {
     pub event: RunEvent,
 }
 
-/// The bytes of the answer.
-pub const ANSWER: usize = 25;
-
 /// What is told of a day, and the refusal that ended it, or 0.
 #[derive(Default)]
 pub struct Told {
@@ -29,18 +28,19 @@ pub struct Told {
     pub written: u64,
     pub place: usize,
     pub awaited: u8,
+    pub lowest: u8,
     pub refusal: u8,
 }
 
 impl Told {
     /// The bytes of the answer.
-    fn answer(&self) -> [u8; ANSWER] {
-        let mut answer = [0; ANSWER];
+    fn answer(&self) -> [u8; DAY_ANSWER] {
+        let mut answer = [0; DAY_ANSWER];
         let numbers = [self.accepted, self.written, self.place as u64];
         for (bytes, number) in answer.chunks_exact_mut(8).zip(numbers) {
             bytes.copy_from_slice(&number.to_be_bytes());
         }
-        answer[ANSWER - 1] = self.awaited;
+        answer[DAY_ANSWER - 2..].copy_from_slice(&[self.awaited, self.lowest]);
         answer
     }
 }
@@ -49,7 +49,7 @@ impl Days {
     /// A day by one call after another: each record is read, and its event happens, until one is
     /// refused or no byte is left.
     pub fn one_by_one(self, run: &mut [u8], journal: &[u8]) -> Told {
-        let (mut told, mut fields, mut answer) = (Told::default(), [0; 6], [0; 3]);
+        let (mut told, mut fields, mut answer) = (Told::default(), [0; 6], [0; RUN_ANSWER]);
         while told.place < journal.len() {
             told.refusal = (self.read)(journal, told.place, &mut fields);
             if told.refusal == 0 {
@@ -62,7 +62,7 @@ impl Days {
             told.accepted += 1;
             told.written += u64::from(answer[1]);
             told.place += RECORD;
-            told.awaited = answer[2];
+            [told.awaited, told.lowest] = [answer[2], answer[3]];
         }
         told
     }
@@ -70,10 +70,10 @@ impl Days {
     /// The whole call by others: 15 first, then 1 for bytes that are no run. An event of no kind
     /// changes nothing: it is refused with 13, and before that with 1 where they are none.
     fn by_other_calls(self, run: &mut [u8], journal: &[u8], answer: &mut [u8]) -> u8 {
-        let Some(answer) = answer.first_chunk_mut::<ANSWER>() else {
+        let Some(answer) = answer.first_chunk_mut::<DAY_ANSWER>() else {
             return 15;
         };
-        if (self.event)(run, 0, 0, 0, 0, 0, 0, &mut [0; 3]) == 1 {
+        if (self.event)(run, 0, 0, 0, 0, 0, 0, &mut [0; RUN_ANSWER]) == 1 {
             answer.fill(0);
             return 1;
         }
@@ -99,7 +99,8 @@ fn made(
 
 /// The room of an answer: mostly enough, now and then any that is too small.
 fn room(random: &mut Random) -> usize {
-    let room = if random.once_in(32) { random.below(25) } else { 25 + random.below(4) };
+    let needed = DAY_ANSWER as u64;
+    let room = if random.once_in(32) { random.below(needed) } else { needed + random.below(4) };
     room as usize
 }
 
@@ -129,9 +130,16 @@ const RETURNED: [u8; 12] = [0, 1, 2, 3, 4, 5, 6, 10, 11, 12, 13, 14];
 /// The classes of accepted events by which days are counted: from so many on.
 const CLASSES: [u64; 6] = [0, 1, 4, 8, 16, 32];
 
-/// How many days ended with each number that is returned, by the class of what was accepted.
+/// The sort of these answers.
+const DAYS: &str = "days";
+
+/// How many days ended with each number that is returned, by the class of what was accepted; and whom
+/// those that accepted something named as the lowest awaited.
 #[derive(Default)]
-struct Met(BTreeMap<(u8, u64), u64>);
+struct Met {
+    ended: BTreeMap<(u8, u64), u64>,
+    lowest: Lowest,
+}
 
 impl Met {
     fn note(&mut self, (returned, _, answer): &After) {
@@ -140,7 +148,10 @@ impl Met {
             _ => 0,
         };
         let class = CLASSES.into_iter().rfind(|from| *from <= accepted).unwrap_or_default();
-        *self.0.entry((*returned, class)).or_default() += 1;
+        *self.ended.entry((*returned, class)).or_default() += 1;
+        if accepted > 0 {
+            self.lowest.named(DAYS, answer[DAY_ANSWER - 1]);
+        }
     }
 
     /// Prints what was met: each number must be, after no accepted event, after many, and between.
@@ -148,12 +159,13 @@ impl Met {
         let row = |cells: [String; CLASSES.len()]| cells.map(|cell| format!("{cell:>8}")).concat();
         println!("accepted   {}", row(CLASSES.map(|from| format!("{from}+"))));
         for returned in RETURNED.into_iter().chain([15]) {
-            let days = |class| self.0.get(&(returned, class)).copied().unwrap_or_default();
+            let days = |class| self.ended.get(&(returned, class)).copied().unwrap_or_default();
             println!("returned {returned:>2}{}", row(CLASSES.map(|class| days(class).to_string())));
         }
         let each = RETURNED.into_iter().flat_map(|number| CLASSES.map(|class| (number, class)));
         let expected = BTreeSet::from_iter(each.chain([(15, 0)]));
-        let met: BTreeSet<(u8, u64)> = self.0.keys().copied().collect();
+        let met: BTreeSet<(u8, u64)> = self.ended.keys().copied().collect();
         tally.note(&met, &expected, || "numbers returned, and accepted events".to_string());
+        self.lowest.look(tally, &[(DAYS, 1..=8)]);
     }
 }

@@ -3,6 +3,7 @@
 use crate::inputs::journals::{any_fields, Journals};
 use crate::inputs::runs::Events;
 use crate::inputs::{pattern, Random};
+use crate::lowest::{Lowest, OUTCOMES};
 use crate::tally::Tally;
 
 /// K, S, O, M, V, X, the room and the place in it.
@@ -28,12 +29,24 @@ pub fn compare(first: Journaling, second: Journaling, count: u64) -> Tally {
         read(&mut tally, [first, second], &mut random, &events);
         write(&mut tally, [first, second], &mut random, &events);
     }
-    let journals = Journals::default();
+    let (journals, mut lowest) = (Journals::default(), Lowest::default());
     for _ in 0..count {
         let journal = journals.any(&mut random);
-        rehearse(&mut tally, [first, second], &mut random, &journal);
+        let text = rehearse(&mut tally, [first, second], &mut random, &journal);
+        text.lines().for_each(|line| last_field(&mut lowest, line));
     }
+    // In a run from fresh a leader knows every lower site to have stopped.
+    let [taken, passed] = OUTCOMES;
+    lowest.look(&mut tally, &[(taken, 2..=8), (passed, 3..=8)]);
     tally
+}
+
+/// Counts the last field of a line of a rehearsal, if it has one.
+fn last_field(lowest: &mut Lowest, line: &str) {
+    let [_, word, _, last] = line.split(' ').collect::<Vec<_>>()[..] else { return };
+    if let Some(outcome) = OUTCOMES.into_iter().find(|outcome| *outcome == word) {
+        lowest.named(outcome, if last == "-" { 0 } else { last.parse().expect("a site") });
+    }
 }
 
 /// A place in so many bytes, now and then at or past their end.
@@ -82,15 +95,23 @@ fn write(tally: &mut Tally, programs: [Journaling; 2], random: &mut Random, even
     tally.note(&first, &second, || format!("write {:?} at {at} of {length}", [k, s, o, m, v, x]));
 }
 
-/// Rehearses with ample room, and with less than an input of that length is given.
-fn rehearse(tally: &mut Tally, programs: [Journaling; 2], random: &mut Random, journal: &[u8]) {
+/// Rehearses with ample room, and with less than an input of that length is given. The text of the
+/// first program comes back.
+fn rehearse(
+    tally: &mut Tally,
+    programs: [Journaling; 2],
+    random: &mut Random,
+    journal: &[u8],
+) -> String {
     let made = |program: Journaling, length: usize| {
         let mut room = pattern(length);
         ((program.rehearse)(journal, &mut room), room)
     };
-    let [first, second] = programs.map(|program| made(program, AMPLE));
+    let [(length, text), second] = programs.map(|program| made(program, AMPLE));
+    let told = String::from_utf8_lossy(&text[..length]).into_owned();
     let short = random.below(38 + 26 * (journal.len() as u64 / 9)) as usize;
-    tally.note(&first, &second, || format!("rehearse {journal:?}"));
+    tally.note(&(length, text), &second, || format!("rehearse {journal:?}"));
     let [first, second] = programs.map(|program| made(program, short));
     tally.note(&first, &second, || format!("rehearse {journal:?} in {short}"));
+    told
 }

@@ -4,6 +4,7 @@ pub mod day;
 pub mod hostile;
 pub mod inputs;
 pub mod journal;
+pub mod lowest;
 pub mod parts;
 pub mod program;
 pub mod run;

@@ -1,8 +1,10 @@
 //! Compares runs, event by event.
 
-use crate::inputs::runs::{any_run, Event, Events, RUN};
+use crate::inputs::runs::{any_run, waiting_run, Event, Events, RUN};
 use crate::inputs::{pattern, Random};
+use crate::lowest::{Lowest, OUTCOMES};
 use crate::tally::Tally;
+use fjadrimor::calls::RUN_ANSWER;
 
 /// A run's bytes, K, S, O, M, V, X, the room of the answer.
 pub type RunEvent = fn(&mut [u8], u8, u8, u8, u8, u8, u8, &mut [u8]) -> u8;
@@ -29,6 +31,7 @@ struct Comparison {
     first: Runs,
     second: Runs,
     tally: Tally,
+    lowest: Lowest,
 }
 
 impl Comparison {
@@ -46,6 +49,7 @@ impl Comparison {
         let after = happen(self.second, run, event, room);
         let described = || format!("run {run:?} event {event:?} room {room}");
         self.tally.note(&happen(self.first, run, event, room), &after, described);
+        self.lowest.note::<RUN_ANSWER>(after.0, &after.2);
         after
     }
 }
@@ -53,7 +57,8 @@ impl Comparison {
 /// Compares two programs on fresh runs and on `count` events: half of them in long runs from
 /// fresh, half of them in arbitrary runs.
 pub fn compare(first: Runs, second: Runs, count: u64) -> Tally {
-    let mut comparison = Comparison { first, second, tally: Tally::default() };
+    let (tally, lowest) = (Tally::default(), Lowest::default());
+    let mut comparison = Comparison { first, second, tally, lowest };
     for n in 0..=255 {
         comparison.fresh(n, RUN);
     }
@@ -62,7 +67,9 @@ pub fn compare(first: Runs, second: Runs, count: u64) -> Tally {
     }
     long_runs(&mut comparison, count / 2);
     arbitrary_runs(&mut comparison, count - count / 2);
-    comparison.tally
+    let Comparison { mut tally, lowest, .. } = comparison;
+    lowest.look(&mut tally, &OUTCOMES.map(|outcome| (outcome, 1..=8)));
+    tally
 }
 
 /// Runs from fresh, each until nothing has been accepted for long; some with hardly any
@@ -77,7 +84,7 @@ fn long_runs(comparison: &mut Comparison, count: u64) {
         let mut refused = 0;
         while refused < 40 && made < count {
             let event = events.next(&mut random, &run);
-            let (refusal, after, _) = comparison.event(&run, event, 4);
+            let (refusal, after, _) = comparison.event(&run, event, RUN_ANSWER + 1);
             refused = if refusal == 0 { 0 } else { refused + 1 };
             run = after;
             made += 1;
@@ -85,16 +92,20 @@ fn long_runs(comparison: &mut Comparison, count: u64) {
     }
 }
 
-/// One event in each of many runs, sound or not; now and then a slice of a wrong length.
+/// One event in each of many runs, sound or not, and in many of them a leader waits; now and then a
+/// slice of a wrong length.
 fn arbitrary_runs(comparison: &mut Comparison, count: u64) {
     let mut random = Random::new(3);
     let events = Events::new(4, 8);
     for _ in 0..count {
-        let mut run = any_run(&mut random);
+        let n = random.within(2, 12).min(8);
+        let waits = random.once_in(4);
+        let mut run = if waits { waiting_run(&mut random, n) } else { any_run(&mut random) };
         if random.once_in(64) {
             run.resize(random.below(200) as usize, 0);
         }
-        let room = if random.once_in(64) { random.below(4) } else { 3 + random.below(4) };
+        let needed = RUN_ANSWER as u64;
+        let room = if random.once_in(64) { random.below(needed) } else { needed + random.below(4) };
         let event = events.next(&mut random, &run);
         comparison.event(&run, event, room as usize);
     }

@@ -1,7 +1,9 @@
 //! Compares single site steps.
 
 use crate::inputs::{any_site, any_step, pattern, steps, Fields, Random};
+use crate::lowest::{Lowest, OUTCOMES};
 use crate::tally::Tally;
+use fjadrimor::calls::SITE_ANSWER;
 
 /// A program's `fj_site_step`.
 pub type SiteStep = fn(&mut [u8], u8, u8, u8, u8, &mut [u8]) -> u8;
@@ -25,11 +27,13 @@ impl Call {
 
 /// Compares two programs on every step of small runs and on `count` random calls.
 pub fn compare(first: SiteStep, second: SiteStep, count: u64) -> Tally {
-    let mut tally = Tally::default();
+    let (mut tally, mut lowest) = (Tally::default(), Lowest::default());
     let mut look = |call: Call| {
         let described =
             || format!("site {:?} step {:?} room {}", call.site, call.fields, call.room);
-        tally.note(&call.made(first), &call.made(second), described);
+        let (refusal, site, answer) = call.made(first);
+        lowest.note::<SITE_ANSWER>(refusal, &answer);
+        tally.note(&(refusal, site, answer), &call.made(second), described);
     };
     for n in 2..=3 {
         every_small_step(n, &mut look);
@@ -37,6 +41,7 @@ pub fn compare(first: SiteStep, second: SiteStep, count: u64) -> Tally {
     let mut random = Random::new(1);
     let steps = steps(9);
     (0..count).for_each(|_| look(any_call(&mut random, &steps)));
+    lowest.look(&mut tally, &OUTCOMES.map(|outcome| (outcome, 1..=8)));
     tally
 }
 
@@ -78,6 +83,7 @@ pub fn any_call(random: &mut Random, steps: &[Fields]) -> Call {
         let length = random.below(12) as usize;
         site.resize(length, 0);
     }
-    let room = if random.once_in(40) { random.below(6) } else { 5 + random.below(4) };
+    let needed = SITE_ANSWER as u64;
+    let room = if random.once_in(40) { random.below(needed) } else { needed + random.below(4) };
     Call { site, fields: any_step(random, steps), room: room as usize }
 }

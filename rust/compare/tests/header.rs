@@ -5,7 +5,8 @@ use compare::inputs::days::longest;
 use compare::inputs::drafts::product;
 use compare::inputs::journals::Journals;
 use compare::inputs::Random;
-use fjadrimor::{calls, Refusal};
+use fjadrimor::calls::{DAY_ANSWER, RUN_ANSWER, SITE_ANSWER};
+use fjadrimor::{calls, Event, Refusal, Run, Site, Step, Vote};
 
 const HEADER: &str = include_str!("../../../include/fjadrimor.h");
 
@@ -33,6 +34,14 @@ fn grounds_are_the_refusals() {
         names.map(str::trim).map(|name| (name.to_string(), number(name))).collect();
     let refusal = |is: &Refusal| (in_c(&format!("{is:?}")), usize::from(is.number()));
     assert_eq!(told, Refusal::ALL.iter().map(refusal).collect::<Vec<_>>());
+}
+
+#[test]
+fn answers_are_as_long_as_in_rust() {
+    let told = ["SITE", "RUN", "DAY"].map(|call| number(&format!("FJ_{call}_ANSWER")));
+    assert_eq!(told, [SITE_ANSWER, RUN_ANSWER, DAY_ANSWER]);
+    let lowest = ["STEP", "EVENT", "DAY"].map(|answer| number(&format!("FJ_{answer}_LOWEST")));
+    assert_eq!(lowest.map(|place| place + 1), told, "the lowest is the last of each");
 }
 
 /// A call that asks for so much room is refused with 15, or returns 0, where there is less.
@@ -77,34 +86,49 @@ fn a_rehearsal_needs_the_room_that_the_macro_gives() {
 #[test]
 fn parts_stand_where_the_header_says() {
     let at = |name: &str| number(name);
-    let (mut site, mut answer) = ([3, 1, 0, 1, 0, 0, 0, 0], [9; 5]);
+    let (mut site, mut answer) = ([3, 1, 0, 1, 0, 0, 0, 0], [9; SITE_ANSWER]);
+    let done = Site::from_bytes(site).and_then(|mut site| site.step(Step::Begin(Vote::Yes)));
+    let done = done.expect("site 1 begins");
     assert_eq!(calls::site_step(&mut site, 1, 0, 0, 1, &mut answer), 0);
-    let parts = ["OUTCOME", "KIND", "RECEIVERS", "WRITTEN", "AWAITED"];
+    let parts = ["OUTCOME", "KIND", "RECEIVERS", "WRITTEN", "AWAITED", "LOWEST"];
     let told = parts.map(|part| answer[at(&format!("FJ_STEP_{part}"))]);
-    assert_eq!(told, [0, number("FJ_START") as u8, 0b110, 2, 2]);
+    let [kind, lowest] = [done.message.map(|kind| kind.number()), done.lowest].map(Option::unwrap);
+    let held =
+        [done.outcome as u8, kind, done.receivers.mask(), done.written, done.awaited, lowest];
+    assert_eq!((told, told), (held, [0, number("FJ_START") as u8, 0b110, 2, 2, 2]));
     let parts = ["N", "NUMBER", "STATE", "LEADER", "KNOWN", "YES", "NO", "ACKED"];
     let held = parts.map(|part| site[at(&format!("FJ_SITE_{part}"))]);
     assert_eq!(held, [3, 1, number("FJ_W") as u8, 1, 0, 0, 0, 0]);
-    let (mut run, mut answer) = ([0; 138], [9; 3]);
+}
+
+#[test]
+fn parts_of_an_event_s_answer_stand_where_the_header_says() {
+    let (mut run, mut answer) = ([0; 138], [9; RUN_ANSWER]);
     assert_eq!(calls::run_fresh(3, &mut run), 0);
+    let begin = Event::Act { site: 1, step: Step::Begin(Vote::Yes) };
+    let ran = Run::from_bytes(run).and_then(|mut run| run.happens(begin)).expect("site 1 begins");
     assert_eq!(calls::run_event(&mut run, 1, 1, 0, 0, 1, 0, &mut answer), 0);
-    let told =
-        ["OUTCOME", "WRITTEN", "AWAITED"].map(|part| answer[at(&format!("FJ_EVENT_{part}"))]);
-    assert_eq!(told, [0, 2, 2]);
+    let parts = ["OUTCOME", "WRITTEN", "AWAITED", "LOWEST"];
+    let told = parts.map(|part| answer[number(&format!("FJ_EVENT_{part}"))]);
+    let held = [ran.outcome as u8, ran.written, ran.awaited, ran.lowest.unwrap()];
+    assert_eq!((told, told), (held, [0, 2, 2, 2]));
 }
 
 #[test]
 fn parts_of_a_day_stand_where_the_header_says() {
-    let (mut run, mut answer) = ([0; 138], [9; 25]);
+    let (mut run, mut answer) = ([0; 138], [9; DAY_ANSWER]);
     assert_eq!(calls::run_fresh(4, &mut run), 0);
     let begin_and_conclude = [0, 7, 1, 1, 1, 0, 0, 1, 0, 0, 7, 1, 5, 1, 0, 0, 0, 0];
+    let day = Run::from_bytes(run).expect("a fresh run").journal(&begin_and_conclude);
     let returned = calls::run_journal(&mut run, &begin_and_conclude, &mut answer);
     assert_eq!(usize::from(returned), number("FJ_NOT_ALLOWED"));
     let told = ["ACCEPTED", "WRITTEN", "PLACE"].map(|part| {
         let at = number(&format!("FJ_DAY_{part}"));
-        u64::from_be_bytes(answer[at..at + 8].try_into().expect("eight bytes"))
+        usize::from_be_bytes(answer[at..at + 8].try_into().expect("eight bytes"))
     });
-    assert_eq!((told, answer[number("FJ_DAY_AWAITED")]), ([1, 3, 9], 3));
+    assert_eq!((told, told), ([day.accepted, day.written, day.place], [1, 3, 9]));
+    let told = ["AWAITED", "LOWEST"].map(|part| answer[number(&format!("FJ_DAY_{part}"))]);
+    assert_eq!((told, told), ([day.awaited, day.lowest.unwrap()], [3, 2]));
 }
 
 /// The parts of a sheet with the longest record: four sites of eight states, and the same transition
@@ -160,13 +184,13 @@ fn the_stack_is_enough() {
     let (mut words, mut text) = (vec![0; 4096], vec![0; 200_000]);
     let (mut run, mut site) = ([0; 138], [8, 1, 0, 1, 0, 0, 0, 0]);
     with_little_stack(move || {
-        calls::site_step(&mut site, 1, 0, 0, 1, &mut [0; 5]);
+        calls::site_step(&mut site, 1, 0, 0, 1, &mut [0; SITE_ANSWER]);
         calls::run_fresh(8, &mut run);
         for k in [1, 17] {
-            calls::run_event(&mut run, k, 1, 0, 0, 1, 0, &mut [0; 3]);
+            calls::run_event(&mut run, k, 1, 0, 0, 1, 0, &mut [0; RUN_ANSWER]);
         }
         calls::run_fresh(8, &mut run);
-        calls::run_journal(&mut run, &day, &mut [0; 25]);
+        calls::run_journal(&mut run, &day, &mut [0; DAY_ANSWER]);
         calls::record_read(&journal, 1, &mut [0; 6]);
         calls::record_write(6, 1, 0, 0, 0, 0, &mut [0; 9], 0);
         calls::rehearse(&journal, &mut text);

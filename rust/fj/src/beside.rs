@@ -1,11 +1,12 @@
-//! A rehearsal with words: beside each line of the transcript its event and why it was refused, and
-//! below the last one how the run stands.
+//! A rehearsal with words: beside each line of the transcript its event, why it was refused or whom
+//! the acting site then awaits, and below the last one how the run stands.
 
 use crate::grounds::sentence;
 use crate::notation::why_bad;
 use crate::reasons::reason;
 use crate::rehearsal::{records, transcript, Line, Verdict};
 use crate::standing;
+use crate::waits::awaited;
 use crate::words::words;
 use fjadrimor::{Event, Run};
 use std::fmt::Display;
@@ -14,8 +15,9 @@ use std::fmt::Display;
 pub struct Rehearsal {
     pub transcript: String,
     lines: Vec<Line>,
-    /// For each line the reason, where its record is refused or bad.
-    reasons: Vec<String>,
+    /// What each line has in brackets: why its record is refused or bad, or else whom the acting site
+    /// awaits.
+    notes: Vec<String>,
     /// The run as it stands after the last event, where there is a run at all.
     pub run: Option<Run>,
 }
@@ -26,19 +28,19 @@ impl Rehearsal {
         let transcript = transcript(journal)?;
         let lines = records(&transcript, journal);
         let mut run = journal.first().and_then(|n| Run::fresh(*n).ok());
-        let reasons = lines.iter().map(|line| why(run.as_mut(), line, is_longer)).collect();
-        Ok(Rehearsal { transcript, lines, reasons, run })
+        let notes = lines.iter().map(|line| note(run.as_mut(), line, is_longer)).collect();
+        Ok(Rehearsal { transcript, lines, notes, run })
     }
 
     /// The transcript with words beside its lines and below them.
     pub fn text(&self) -> String {
         let width = self.transcript.lines().map(str::len).max().unwrap_or_default();
         let row = |line, words| format!("{line:width$}  {words}").trim_end().to_string() + "\n";
-        let mut told = self.lines.iter().zip(&self.reasons);
+        let mut told = self.lines.iter().zip(&self.notes);
         let beside = self.transcript.lines().map(|line| {
             let is_record = line.starts_with(|first: char| first.is_ascii_digit());
             let record = if is_record { told.next() } else { None };
-            row(line, record.map_or_else(|| around(line), |(line, why)| event(line, why)))
+            row(line, record.map_or_else(|| around(line), |(line, note)| event(line, note)))
         });
         let standing = self.run.iter().flat_map(standing::lines).map(|words| row("", words));
         beside.collect::<String>() + &standing.collect::<String>()
@@ -65,30 +67,36 @@ impl Rehearsal {
         &self,
         of: impl Fn(Verdict) -> Option<u8>,
     ) -> impl Iterator<Item = (usize, u8, &str)> {
-        let lines = (1..).zip(self.lines.iter().zip(&self.reasons));
-        lines.filter_map(move |(place, (line, why))| Some((place, of(line.verdict)?, &**why)))
+        let lines = (1..).zip(self.lines.iter().zip(&self.notes));
+        lines.filter_map(move |(place, (line, note))| Some((place, of(line.verdict)?, &**note)))
     }
 }
 
-/// Why a record is refused or bad, in the run as it then stands. A good one takes its effect there.
-fn why(run: Option<&mut Run>, line: &Line, is_longer: bool) -> String {
+/// Why a record is refused or bad, in the run as it then stands. A good one takes its effect there,
+/// and what is said is whom its site then awaits.
+fn note(run: Option<&mut Run>, line: &Line, is_longer: bool) -> String {
     let happens = run.zip(line.fields.and_then(Event::of_fields));
     match (line.verdict, happens) {
         (Verdict::Refused(ground), Some((run, event))) => reason(run, event, ground),
         (Verdict::Bad(ground), _) => why_bad(ground, is_longer),
-        (_, happens) => {
-            let _accepted = happens.map(|(run, event)| run.happens(event));
-            String::new()
-        }
+        (_, Some((run, event))) => waits_after(run, event).unwrap_or_default(),
+        (_, None) => String::new(),
     }
 }
 
+/// An event happens: whom its site then awaits, where the library says that there is somebody.
+fn waits_after(run: &mut Run, event: Event) -> Option<String> {
+    run.happens(event).ok()?.lowest?;
+    let [_, site, ..] = event.fields();
+    Some(format!("awaits {}", awaited(run.site(site)?)?.words()))
+}
+
 /// What stands beside the line of a record.
-fn event(line: &Line, why: &str) -> String {
+fn event(line: &Line, note: &str) -> String {
     let event = line.fields.map(words).unwrap_or_default();
-    match why.is_empty() {
+    match note.is_empty() {
         true => event,
-        false => format!("{event} ({why})").trim_start().to_string(),
+        false => format!("{event} ({note})").trim_start().to_string(),
     }
 }
 

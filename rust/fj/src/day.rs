@@ -25,11 +25,12 @@ impl HandedOver<'_> {
         Some(HandedOver { journal, run, day })
     }
 
-    /// The answer in numbers: accepted, written, place, awaited, and the refusal or 0.
+    /// The answer in numbers: accepted, written, place, awaited, the lowest awaited and the refusal,
+    /// each of these two 0 for none.
     pub fn numbers(&self) -> String {
-        let Day { accepted, written, place, awaited, refusal } = self.day;
-        let ground = refusal.map_or(0, Refusal::number);
-        format!("{accepted} {written} {place} {awaited} {ground}\n")
+        let Day { accepted, written, place, awaited, lowest, refusal } = self.day;
+        let (lowest, ground) = (lowest.unwrap_or(0), refusal.map_or(0, Refusal::number));
+        format!("{accepted} {written} {place} {awaited} {lowest} {ground}\n")
     }
 
     /// The answer in words.
@@ -50,11 +51,12 @@ impl HandedOver<'_> {
         self.day.accepted + 1
     }
 
-    /// How many sites the acting site of the last accepted event awaits, where there are any.
+    /// How many sites the acting site of the last accepted event awaits, where there are any, and
+    /// which of them to ring.
     fn awaited(&self) -> Option<String> {
-        let awaited = Some(self.day.awaited).filter(|awaited| *awaited != 0)?;
+        let (awaited, lowest) = (self.day.awaited, self.day.lowest?);
         let [_, site, ..] = record_at(&self.journal.bytes, self.day.accepted).ok()?;
-        Some(format!("sites that site {site} still awaits: {awaited}"))
+        Some(format!("sites that site {site} still awaits: {awaited}; ring site {lowest}"))
     }
 
     /// Where the call ended, and why.

@@ -70,10 +70,26 @@ fn one_record_too_early() {
     let mut records: Vec<&[u8]> = journal[1..].chunks(9).collect();
     let mut run = Run::fresh(journal[0]).expect("a run");
     let day = run.journal(&records.concat());
-    let refusal = Some(Refusal::NotAllowed);
-    assert_eq!(day, Day { accepted: 4, written: 4, place: 36, awaited: 1, refusal });
+    let (lowest, refusal) = (Some(3), Some(Refusal::NotAllowed));
+    assert_eq!(day, Day { accepted: 4, written: 4, place: 36, awaited: 1, lowest, refusal });
     records.swap(4, 5);
     let rest = run.journal(&records.concat()[day.place..]);
     assert_eq!((rest.accepted, rest.refusal), (9, None));
     assert!((1..=3).all(|site| run.site(site).is_some_and(|site| site.state().letter() == 'c')));
+}
+
+/// What the desk reads in its story after each record: how many are awaited, and whom to ring.
+#[test]
+fn whom_to_ring() {
+    let journal = assembled(&std::path::Path::new(SCENARIOS).join("whom-to-ring.journal"));
+    let awaited = [3, 0, 2, 0, 1, 0, 0, 3, 0, 2, 0, 1, 0, 0, 0, 0];
+    let lowest = [2, 0, 2, 0, 4, 0, 0, 2, 0, 3, 0, 4, 0, 0, 0, 0];
+    let records = journal[1..].chunks(9);
+    assert_eq!(records.len(), awaited.len());
+    let mut run = Run::fresh(journal[0]).expect("a run");
+    for (record, told) in records.zip(awaited.into_iter().zip(lowest)) {
+        let day = run.journal(record);
+        let read = ((day.awaited, day.lowest.unwrap_or(0)), day.refusal);
+        assert_eq!(read, (told, None), "{record:?}");
+    }
 }

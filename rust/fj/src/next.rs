@@ -22,11 +22,13 @@ pub fn list(run: &Run) -> String {
 /// What would become of an event, as the transcript would have it, if it is accepted.
 fn outcome(run: &Run, event: Event) -> Option<String> {
     let mut run = *run;
-    let word = match run.happens(event).ok()?.outcome {
+    let ran = run.happens(event).ok()?;
+    let word = match ran.outcome {
         Outcome::Taken => "taken",
         Outcome::Passed => "passed",
     };
-    Some(format!("{word} {}", letters(&run)))
+    let lowest = ran.lowest.map_or("-".to_string(), |site| site.to_string());
+    Some(format!("{word} {} {lowest}", letters(&run)))
 }
 
 /// Every event that is worth asking about: the steps of all sites, their stops, and a stop inside

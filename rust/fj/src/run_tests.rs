@@ -112,10 +112,10 @@ fn in_every_run_a_refusal_has_words_of_its_own() {
     assert!(refused.into_iter().eq(met));
 }
 
-/// The library tells after each event how many sites the acting one awaits.
+/// The library tells after each event how many sites the acting one awaits, and the lowest.
 #[test]
-fn in_every_run_as_many_are_awaited_as_the_library_says() {
-    let mut counts = [0; 8];
+fn in_every_run_those_are_awaited_that_the_library_says() {
+    let (mut counts, mut lowest) = ([0; 8], [0; 9]);
     for seed in 0..300 {
         let n = 2 + (seed % 7) as u8;
         let (mut next, mut run) = (chance(seed), Run::fresh(n).unwrap());
@@ -123,12 +123,16 @@ fn in_every_run_as_many_are_awaited_as_the_library_says() {
             let event = some_event(n, &mut next);
             let (Event::Act { site, .. }, Ok(ran)) = (event, run.happens(event)) else { continue };
             let record = run.site(site).expect("an acting site");
-            let found = awaited(record).map_or(0, |awaited| awaited.from.len());
-            assert_eq!(found, usize::from(ran.awaited), "{event:?}");
-            counts[found] += 1;
+            let found = awaited(record).map_or(Sites::default(), |awaited| awaited.from);
+            let told = (found.len(), found.iter().next());
+            assert_eq!(told, (usize::from(ran.awaited), ran.lowest), "{event:?}");
+            counts[found.len()] += 1;
+            lowest[usize::from(ran.lowest.unwrap_or(0))] += 1;
         }
     }
     assert!(counts.iter().all(|count| *count > 0), "{counts:?}");
+    // No leader of a run from fresh awaits site 1.
+    assert!(lowest[1] == 0 && [0, 2, 3, 4, 5].iter().all(|site| lowest[*site] > 0), "{lowest:?}");
 }
 
 #[test]

@@ -326,11 +326,11 @@ fn rehearsed(text: &str) -> Rehearsal {
 fn words_stand_beside_the_transcript_and_below_it() {
     let text = "sites 2\nbegin 1 yes\nconclude 1\nbytes 00 07 02 05 01 00 00 00 00";
     let told = rehearsed(text);
-    assert_eq!(told.transcript, "sites 2\n1 taken wq\n2 refused 5 wq\n3 bad 12\nend 1 1\n");
+    assert_eq!(told.transcript, "sites 2\n1 taken wq 2\n2 refused 5 wq\n3 bad 12\nend 1 1\n");
     assert_eq!(
         told.text(),
         "sites 2\n\
-         1 taken wq      begin 1 yes\n\
+         1 taken wq 2    begin 1 yes (awaits the vote of site 2)\n\
          2 refused 5 wq  conclude 1 (site 1 awaits the vote of site 2)\n\
          3 bad 12        (the record's version is not 1; no more is read)\n\
          end 1 1         events accepted: 1, messages written: 1\n\
@@ -338,6 +338,22 @@ fn words_stand_beside_the_transcript_and_below_it() {
          \x20               undecided: site 1 in w waits for the vote of site 2\n\
          \x20               undecided: site 2 in q waits for site 1\n"
     );
+}
+
+/// Whom the acting site awaits, beside events that are taken and passed over; beside a stop nobody.
+#[test]
+fn whom_the_acting_site_awaits_stands_beside_its_line() {
+    let file = concat!(env!("CARGO_MANIFEST_DIR"), "/../../scenarios/late-message.journal");
+    let told = rehearsed(&std::fs::read_to_string(file).expect("a scenario")).text();
+    let beside = "6 taken pww 2    conclude 1 (awaits the acks of sites 2 and 3)\n\
+                  7 taken Pww -    stop 1\n\
+                  8 taken Pww -    notice 2 of 1\n\
+                  9 taken Pww 3    take over 2 (awaits the ack of site 3)\n\
+                  10 taken Pww -   deliver 3 move-w from 2\n\
+                  11 passed Pww -  deliver 3 move-p from 1\n\
+                  12 passed Pww 3  deliver 2 move-p from 1 (awaits the ack of site 3)\n\
+                  13 taken Pww -   deliver 2 ack from 3\n";
+    assert!(told.contains(beside), "{told}");
 }
 
 #[test]

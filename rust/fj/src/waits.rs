@@ -9,7 +9,7 @@ pub struct Awaited {
 }
 
 /// What a leader still awaits before it can conclude, if anything. The library tells the number of
-/// these sites.
+/// these sites, and the lowest.
 pub fn awaited(site: Site) -> Option<Awaited> {
     let (answer, heard) = match (site.state(), site.number()) {
         _ if site.leader() != site.number() => return None,

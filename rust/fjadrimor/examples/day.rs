@@ -54,6 +54,9 @@ fn hands_over(run: &mut Run, records: &[u8]) -> Day {
     let letters: String = letters.map(|site| site.state().letter()).collect();
     let (accepted, written, awaited) = (day.accepted, day.written, day.awaited);
     print!("{letters}: {accepted} accepted, {written} written, {awaited} awaited");
+    if let Some(site) = day.lowest {
+        print!(" (ring ledger {site})");
+    }
     if let Some(refusal) = day.refusal {
         print!("; refused {} at byte {}", refusal.number(), day.place);
     }

@@ -1,10 +1,10 @@
 //! What became of a day's journal.
 
+use crate::calls::DAY_ANSWER;
+use crate::sites::named;
 use crate::Refusal;
 
-/// The bytes of the answer: three numbers, then the awaited one.
-pub(crate) const ANSWER: usize = 25;
-/// The bytes of each of the three: accepted, written, place.
+/// The bytes of each of the first three numbers: accepted, written, place.
 const NUMBER: usize = 8;
 
 /// The answer to a day's journal, which [`Run::journal`](crate::Run::journal) takes.
@@ -21,18 +21,21 @@ pub struct Day {
     /// How many sites the acting site of the last accepted event still awaits; 0 after a stop, and
     /// where none was accepted. Whether the close is over is read from the states.
     pub awaited: u8,
+    /// The lowest of these, the one to ring; none where it awaits nobody.
+    pub lowest: Option<u8>,
     /// Why the record at `place` was refused, if one was: by the reader, or by the run.
     pub refusal: Option<Refusal>,
 }
 
 impl Day {
     /// The library's answer, with what it returned.
-    pub(crate) fn of_answer(answer: &[u8; ANSWER], refusal: Option<Refusal>) -> Day {
+    pub(crate) fn of_answer(answer: &[u8; DAY_ANSWER], refusal: Option<Refusal>) -> Day {
         let number = |place: usize| {
             let bytes = &answer[NUMBER * place..NUMBER * (place + 1)];
             usize::from_be_bytes(bytes.try_into().expect("eight bytes of a 64-bit number"))
         };
         let [accepted, written, place] = [0, 1, 2].map(number);
-        Day { accepted, written, place, awaited: answer[ANSWER - 1], refusal }
+        let [.., awaited, lowest] = *answer;
+        Day { accepted, written, place, awaited, lowest: named(lowest), refusal }
     }
 }

@@ -14,7 +14,7 @@ const ROOM: usize = 1 << 20;
 ///
 /// let mut journal = Journal::new(2);
 /// journal.push(Event::Act { site: 1, step: Step::Begin(Vote::Yes) })?;
-/// assert_eq!(journal.rehearse(), "sites 2\n1 taken wq\nend 1 1\n");
+/// assert_eq!(journal.rehearse(), "sites 2\n1 taken wq 2\nend 1 1\n");
 /// # Ok::<(), fjadrimor::Refusal>(())
 /// ```
 #[derive(Clone, Debug, PartialEq, Eq, Hash)]

@@ -30,6 +30,20 @@
 //!
 //! The package `ledgers` beside this one is a whole program of that kind, with sockets and files.
 //!
+//! Every answer says how many sites the acting one still awaits, and names the lowest of them. A desk
+//! that is asked why nothing happens rings that one, and after its answer the next:
+//!
+//! ```
+//! use fjadrimor::{Kind, Site, Step, Vote};
+//!
+//! let mut first = Site::fresh(4, 1)?;
+//! let done = first.step(Step::Begin(Vote::Yes))?;
+//! assert_eq!((done.awaited, done.lowest), (3, Some(2)));
+//! let done = first.step(Step::Deliver { kind: Kind::Yes, from: 2 })?;
+//! assert_eq!((done.awaited, done.lowest), (2, Some(3)));
+//! # Ok::<(), fjadrimor::Refusal>(())
+//! ```
+//!
 //! # What else there is
 //!
 //! - [`Run`]: all sites of an entry together with the messages between them, for rehearsals, tests

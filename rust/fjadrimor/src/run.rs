@@ -1,6 +1,7 @@
 //! A run: all sites, the messages between them, and who has stopped.
 
-use crate::day::{Day, ANSWER};
+use crate::day::Day;
+use crate::sites::named;
 use crate::{calls, Event, Kind, Message, Outcome, Refusal, Site, Sites};
 
 /// The length of a run in bytes.
@@ -16,8 +17,10 @@ pub struct Ran {
     pub outcome: Outcome,
     /// The number of messages written; of a stop inside a step, those that left.
     pub written: u8,
-    /// The number of sites that the acting one still waits for.
+    /// The number of sites that the acting one still waits for; 0 after a stop.
     pub awaited: u8,
+    /// The lowest of these, the one to ring; none where it waits for nobody.
+    pub lowest: Option<u8>,
 }
 
 /// A run of two to eight sites.
@@ -92,10 +95,10 @@ impl Run {
     /// by an accepted event, and then the next one is refused with 1 (docs/DECISIONS.md, "Runs").
     pub fn happens(&mut self, event: Event) -> Result<Ran, Refusal> {
         let [k, s, o, m, v, x] = event.fields();
-        let mut answer = [0; 3];
+        let mut answer = [0; calls::RUN_ANSWER];
         Refusal::heed(calls::run_event(&mut self.0, k, s, o, m, v, x, &mut answer))?;
-        let [outcome, written, awaited] = answer;
-        Ok(Ran { outcome: Outcome::of_byte(outcome), written, awaited })
+        let [outcome, written, awaited, lowest] = answer;
+        Ok(Ran { outcome: Outcome::of_byte(outcome), written, awaited, lowest: named(lowest) })
     }
 
     /// The events of a day's journal happen: its records, from the front, until one is refused by
@@ -116,13 +119,15 @@ impl Run {
     ///
     /// let mut run = Run::fresh(2)?;
     /// let day = run.journal(journal.records());
-    /// assert_eq!((day.accepted, day.written, day.awaited), (1, 1, 1));
+    /// assert_eq!((day.accepted, day.written), (1, 1));
     /// // No vote is heard yet. The record that is refused is the second: it starts at byte 9.
     /// assert_eq!((day.refusal, day.place), (Some(Refusal::NotAllowed), 9));
+    /// // Site 1 awaits one vote, and site 2 is the one to ring.
+    /// assert_eq!((day.awaited, day.lowest), (1, Some(2)));
     /// # Ok::<(), fjadrimor::Refusal>(())
     /// ```
     pub fn journal(&mut self, records: &[u8]) -> Day {
-        let mut answer = [0; ANSWER];
+        let mut answer = [0; calls::DAY_ANSWER];
         let returned = calls::run_journal(&mut self.0, records, &mut answer);
         Day::of_answer(&answer, Refusal::heed(returned).err())
     }

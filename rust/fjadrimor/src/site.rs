@@ -1,5 +1,6 @@
 //! One site: what a ledger keeps of a close.
 
+use crate::sites::named;
 use crate::{calls, Kind, Refusal, Sites, Step};
 
 /// The state of a site.
@@ -62,6 +63,8 @@ pub struct Done {
     pub written: u8,
     /// The number of sites that this one still waits for.
     pub awaited: u8,
+    /// The lowest of these, the one to ring; none where it waits for nobody.
+    pub lowest: Option<u8>,
 }
 
 impl Done {
@@ -145,15 +148,16 @@ impl Site {
     /// between is then the rules' stop inside a step, and the others can go on without it.
     pub fn step(&mut self, step: Step) -> Result<Done, Refusal> {
         let [k, o, m, v] = step.fields();
-        let mut answer = [0; 5];
+        let mut answer = [0; calls::SITE_ANSWER];
         Refusal::heed(calls::site_step(&mut self.0, k, o, m, v, &mut answer))?;
-        let [outcome, kind, receivers, written, awaited] = answer;
+        let [outcome, kind, receivers, written, awaited, lowest] = answer;
         Ok(Done {
             outcome: Outcome::of_byte(outcome),
             message: Kind::numbered(kind),
             receivers: Sites::from_mask(receivers),
             written,
             awaited,
+            lowest: named(lowest),
         })
     }
 }

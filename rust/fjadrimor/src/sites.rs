@@ -46,6 +46,11 @@ fn weight(site: u8) -> u8 {
     }
 }
 
+/// The site that an answer's byte names; 0 names none.
+pub(crate) fn named(byte: u8) -> Option<u8> {
+    Some(byte).filter(|site| *site != 0)
+}
+
 /// Numbers that are not 1 to 8 are left out.
 impl FromIterator<u8> for Sites {
     fn from_iter<I: IntoIterator<Item = u8>>(sites: I) -> Sites {

@@ -35,16 +35,20 @@ fn journal(events: &[Event]) -> Journal {
     journal
 }
 
+/// The answer where nothing is handed over.
+const NOTHING: Day =
+    Day { accepted: 0, written: 0, place: 0, awaited: 0, lowest: None, refusal: None };
+
 /// The same events by one call after another: the run, and what the day's answer has of them.
 fn one_by_one(mut run: Run, events: &[Event]) -> (Run, Day) {
-    let mut day = Day { accepted: 0, written: 0, place: 0, awaited: 0, refusal: None };
+    let mut day = NOTHING;
     for event in events {
         match run.happens(*event) {
             Ok(ran) => {
                 day.accepted += 1;
                 day.written += usize::from(ran.written);
                 day.place += 9;
-                day.awaited = ran.awaited;
+                (day.awaited, day.lowest) = (ran.awaited, ran.lowest);
             }
             Err(refusal) => {
                 day.refusal = Some(refusal);
@@ -59,8 +63,7 @@ fn one_by_one(mut run: Run, events: &[Event]) -> (Run, Day) {
 fn a_close_in_one_call() {
     let mut run = Run::fresh(3).unwrap();
     let day = run.journal(journal(&close()).records());
-    let expected = Day { accepted: 11, written: 8, place: 99, awaited: 0, refusal: None };
-    assert_eq!(day, expected);
+    assert_eq!(day, Day { accepted: 11, written: 8, place: 99, ..NOTHING });
     let states = [1, 2, 3].map(|number| run.site(number).unwrap().state());
     assert_eq!(states, [State::Commit, State::Commit, State::First]);
 }
@@ -95,8 +98,8 @@ fn what_was_accepted_before_a_bad_record_counts() {
     for (bytes, refusal) in damaged {
         let mut run = Run::fresh(3).unwrap();
         let day = run.journal(&[good.records(), bytes].concat());
-        let refusal = Some(refusal);
-        assert_eq!(day, Day { accepted: 4, written: 4, place: 36, awaited: 1, refusal });
+        let (lowest, refusal) = (Some(3), Some(refusal));
+        assert_eq!(day, Day { accepted: 4, written: 4, place: 36, awaited: 1, lowest, refusal });
         assert_eq!(run, one_by_one(Run::fresh(3).unwrap(), &close()[..4]).0);
     }
 }
@@ -120,8 +123,7 @@ fn a_day_goes_on_where_it_ended() {
 #[test]
 fn an_empty_journal_refuses_nothing() {
     let mut run = Run::fresh(3).unwrap();
-    let nothing = Day { accepted: 0, written: 0, place: 0, awaited: 0, refusal: None };
-    assert_eq!(run.journal(Journal::from_bytes(Vec::new()).records()), nothing);
+    assert_eq!(run.journal(Journal::from_bytes(Vec::new()).records()), NOTHING);
     assert_eq!(run, Run::fresh(3).unwrap());
 }
 
@@ -135,7 +137,7 @@ fn a_run_may_lose_soundness_on_the_way() {
     let events = [act(1, Step::Begin(Vote::Yes)), act(2, Step::Conclude), Event::Stop { site: 1 }];
     let day = run.journal(journal(&events).records());
     let refusal = Some(Refusal::NotSound);
-    assert_eq!(day, Day { accepted: 2, written: 2, place: 18, awaited: 0, refusal });
+    assert_eq!(day, Day { accepted: 2, written: 2, place: 18, refusal, ..NOTHING });
     assert_eq!(Run::from_bytes(run.bytes()), Err(Refusal::NotSound));
     assert_eq!(run.journal(&[]).refusal, None);
 }
@@ -149,5 +151,5 @@ fn a_long_journal() {
     }
     let day = Run::fresh(3).unwrap().journal(&long);
     let refusal = Some(Refusal::NotAllowed);
-    assert_eq!(day, Day { accepted: 11, written: 8, place: 99, awaited: 0, refusal });
+    assert_eq!(day, Day { accepted: 11, written: 8, place: 99, refusal, ..NOTHING });
 }

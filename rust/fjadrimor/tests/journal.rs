@@ -81,7 +81,7 @@ fn reading_ends_at_a_bad_record() {
     let journal = Journal::from_bytes(bytes);
     let begin = act(1, Step::Begin(Vote::Yes));
     assert!(journal.events().eq([Ok(begin), Err(Refusal::WrongVersion)]));
-    assert_eq!(journal.rehearse(), "sites 2\n1 taken wq\n2 bad 12\nend 1 1\n");
+    assert_eq!(journal.rehearse(), "sites 2\n1 taken wq 2\n2 bad 12\nend 1 1\n");
 }
 
 #[test]

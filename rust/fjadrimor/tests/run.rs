@@ -41,7 +41,8 @@ fn a_coordinator_that_stops_in_the_middle_of_commit() {
     let leaving = Sites::from_iter([3]);
     let stop = Event::StopDuring { site: 1, step: Step::Conclude, leaving };
     let ran = run.happens(stop).unwrap();
-    assert_eq!((ran.outcome, ran.written, ran.awaited), (Outcome::Taken, 1, 0));
+    assert_eq!((ran.outcome, ran.written), (Outcome::Taken, 1));
+    assert_eq!((ran.awaited, ran.lowest), (0, None));
     assert_eq!(run.stopped(), Sites::from_iter([1]));
     let commit = Message { kind: Kind::Commit, from: 1, to: 3 };
     assert!(run.outstanding().eq([commit]));
@@ -58,6 +59,27 @@ fn a_coordinator_that_stops_in_the_middle_of_commit() {
     ending.into_iter().for_each(|event| assert!(run.happens(event).is_ok(), "{event:?}"));
     let states = [1, 2, 3].map(|number| run.site(number).unwrap().state());
     assert_eq!(states, [State::Prepared, State::Commit, State::Commit]);
+}
+
+/// Whom site 1 awaits, vote by vote: the lowest is the one to ring. Who answers a vote awaits nobody,
+/// and a notice takes out who has stopped.
+#[test]
+fn the_lowest_awaited_is_the_one_to_ring() {
+    let mut run = Run::fresh(4).unwrap();
+    let vote = Vote::Yes;
+    let story = [
+        (act(1, Step::Begin(vote)), 3, Some(2)),
+        (act(3, Step::Start { from: 1, vote }), 0, None),
+        (deliver(1, Kind::Yes, 3), 2, Some(2)),
+        (act(2, Step::Start { from: 1, vote }), 0, None),
+        (deliver(1, Kind::Yes, 2), 1, Some(4)),
+        (Event::Stop { site: 4 }, 0, None),
+        (act(1, Step::Notice(4)), 0, None),
+    ];
+    for (event, awaited, lowest) in story {
+        let ran = run.happens(event).unwrap();
+        assert_eq!((ran.awaited, ran.lowest), (awaited, lowest), "{event:?}");
+    }
 }
 
 #[test]

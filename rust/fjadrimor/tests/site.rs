@@ -15,7 +15,7 @@ fn set(sites: &[u8]) -> Sites {
 fn row_3_begin_yes() {
     let mut first = Site::fresh(8, 1).unwrap();
     let done = first.step(Step::Begin(Vote::Yes)).unwrap();
-    assert_eq!((done.written, done.awaited), (7, 7));
+    assert_eq!((done.written, done.awaited, done.lowest), (7, 7, Some(2)));
     assert_eq!((done.message, done.receivers), (Some(Kind::Start), set(&[2, 3, 4, 5, 6, 7, 8])));
 }
 
@@ -69,7 +69,8 @@ fn row_9_take_over_in_q() {
 #[test]
 fn row_10_take_over_in_p_and_conclude() {
     let mut second = site([2, 2, 2, 1, 1, 0, 0, 0]);
-    assert_eq!(second.step(Step::TakeOver).unwrap().written, 0);
+    let done = second.step(Step::TakeOver).unwrap();
+    assert_eq!((done.written, done.awaited, done.lowest), (0, 0, None));
     assert_eq!(second.state(), State::Prepared);
     second.step(Step::Conclude).unwrap();
     assert_eq!(second.state(), State::Commit);

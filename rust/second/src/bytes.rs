@@ -1,6 +1,6 @@
 //! Sites and steps as the C interface has them: bytes in, bytes out.
 
-use crate::site::{self, Record, Sites, State, Step};
+use crate::site::{self, lowest, Record, Sites, State, Step};
 
 const STATES: [State; 5] = [State::Q, State::W, State::P, State::A, State::C];
 
@@ -59,37 +59,42 @@ pub fn step_of(k: u8, o: u8, m: u8, v: u8) -> Result<Step, u8> {
     }
 }
 
+/// The bytes of a step's answer: outcome, kind, receivers, written, how many are awaited, the lowest.
+type Answer = [u8; 6];
+
 /// `fj_site_step`: one step of the site in these eight bytes.
 pub fn site_step(site: &mut [u8], k: u8, o: u8, m: u8, v: u8, answer: &mut [u8]) -> u8 {
-    if answer.len() < 5 {
+    let Some(answer) = answer.first_chunk_mut() else {
         return 15;
-    }
+    };
     match stepped(site, k, o, m, v) {
         Ok((record, reply)) => {
             site.copy_from_slice(&record);
-            answer[..5].copy_from_slice(&reply);
+            *answer = reply;
             0
         }
         Err(ground) => {
-            answer[..5].copy_from_slice(&[2, 0, 0, 0, 0]);
+            *answer = [2, 0, 0, 0, 0, 0];
             ground
         }
     }
 }
 
-/// The new record and the five bytes of the answer: outcome, kind, receivers, written, awaited.
-fn stepped(site: &[u8], k: u8, o: u8, m: u8, v: u8) -> Result<([u8; 8], [u8; 5]), u8> {
+/// The new record and the answer.
+fn stepped(site: &[u8], k: u8, o: u8, m: u8, v: u8) -> Result<([u8; 8], Answer), u8> {
     let record = if site.len() == 8 { record_of(site) } else { None };
     let record = record.ok_or(1)?;
     let done = site::step(&record, &step_of(k, o, m, v)?)?;
     let kind = done.messages.first().map_or(0, |message| message.0);
     let receivers: Sites = done.messages.iter().map(|message| message.2).collect();
+    let awaited = done.record.awaited();
     let reply = [
         done.passed as u8,
         kind,
         mask_of(&receivers),
         done.messages.len() as u8,
-        done.record.awaited().len() as u8,
+        awaited.len() as u8,
+        lowest(&awaited),
     ];
     Ok((bytes_of(&done.record), reply))
 }

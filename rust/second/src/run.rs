@@ -23,12 +23,12 @@ pub enum Happening {
 }
 
 /// An accepted event: the run after it, whether it was passed over, the messages that left
-/// (counted as written even where the receiver has stopped), the number of sites awaited.
+/// (counted as written even where the receiver has stopped), the sites that the acting one awaits.
 pub struct Next {
     pub run: Run,
     pub passed: bool,
     pub left: BTreeSet<Message>,
-    pub awaited: usize,
+    pub awaited: Sites,
 }
 
 /// The way a site takes a step in a run: `lawful`, or a wrong one that `explore` tries.
@@ -153,12 +153,12 @@ fn take_step(way: Stepping, run: &Run, site: u8, step: &Step) -> Result<Next, u8
         run.network.remove(&(kind, from, site));
     }
     run.send(&done.messages);
-    let awaited = done.record.awaited().len();
+    let awaited = done.record.awaited();
     run.records[site as usize - 1] = done.record;
     Ok(Next { run, passed: done.passed, left: done.messages, awaited })
 }
 
-/// A stop between steps.
+/// A stop between steps. "After any stop the awaited number is 0": nobody is awaited.
 fn stop(run: &Run, site: u8) -> Result<Next, u8> {
     if !run.sites().contains(&site) {
         return Err(2);
@@ -168,7 +168,7 @@ fn stop(run: &Run, site: u8) -> Result<Next, u8> {
     }
     let mut run = run.clone();
     run.stop(site);
-    Ok(Next { run, passed: false, left: BTreeSet::new(), awaited: 0 })
+    Ok(Next { run, passed: false, left: BTreeSet::new(), awaited: Sites::new() })
 }
 
 /// A stop inside a step: "refused as that step would be, and counts only messages that leave. Its
@@ -185,5 +185,5 @@ fn stop_during(
     let mut run = run.clone();
     run.send(&left);
     run.stop(site);
-    Ok(Next { run, passed: false, left, awaited: 0 })
+    Ok(Next { run, passed: false, left, awaited: Sites::new() })
 }

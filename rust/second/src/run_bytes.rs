@@ -2,7 +2,7 @@
 
 use crate::bytes::{bytes_of, mask_of, record_of, set_of, step_of};
 use crate::run::{event, Happening, Next, Run};
-use crate::site::Sites;
+use crate::site::{lowest, Sites};
 
 /// n, stopped, eight records of eight bytes, nine rows of eight senders' receivers.
 const LENGTH: usize = 138;
@@ -84,21 +84,25 @@ pub fn run_event(
     x: u8,
     answer: &mut [u8],
 ) -> u8 {
-    if answer.len() < 3 {
+    let Some(answer) = answer.first_chunk_mut() else {
         return 15;
-    }
+    };
     match happened(run, [k, s, o, m, v, x]) {
         Ok(next) => {
             run.copy_from_slice(&bytes_of_run(&next.run));
-            let reply = [next.passed as u8, next.left.len() as u8, next.awaited as u8];
-            answer[..3].copy_from_slice(&reply);
+            *answer = reply(&next);
             0
         }
         Err(ground) => {
-            answer[..3].copy_from_slice(&[2, 0, 0]);
+            *answer = [2, 0, 0, 0];
             ground
         }
     }
+}
+
+/// The bytes of an event's answer: outcome, written, how many are awaited, the lowest.
+fn reply(Next { passed, left, awaited, .. }: &Next) -> [u8; 4] {
+    [*passed as u8, left.len() as u8, awaited.len() as u8, lowest(awaited)]
 }
 
 /// The event that these fields name, in the run that these bytes are.

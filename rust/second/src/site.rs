@@ -112,6 +112,11 @@ impl Record {
     }
 }
 
+/// 02, Ask 4: of the awaited sites the lowest, "0 when none is awaited".
+pub fn lowest(awaited: &Sites) -> u8 {
+    awaited.iter().copied().min().unwrap_or(0)
+}
+
 /// The ends that 01 gives to each kind of message, between two sites of 1..n.
 pub fn right_ends(n: u8, (kind, from, to): Message) -> bool {
     let within = (1..=n).contains(&from) && (1..=n).contains(&to);

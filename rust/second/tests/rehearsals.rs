@@ -31,6 +31,18 @@ fn the_worked_example() {
     assert_eq!(rehearse(&journal(2, &events)), text);
 }
 
+/// "The lowest site awaited by the acting site after the event, or `-`": of three awaited ones the
+/// next after each vote; a higher one that answers first changes nothing.
+#[test]
+fn the_lowest_awaited() {
+    let start = |to| [2, to, 1, 1, 1, 0];
+    let yes = |from| [2, 1, from, 2, 0, 0];
+    let events = [[1, 1, 0, 0, 1, 0], start(3), yes(3), start(2), yes(2), start(4), yes(4)];
+    let text = "sites 4\n1 taken wqqq 2\n2 taken wqwq -\n3 taken wqwq 2\n4 taken wwwq -\n\
+                5 taken wwwq 4\n6 taken wwww -\n7 taken wwww -\nend 7 6\n";
+    assert_eq!(rehearse(&journal(4, &events)), text);
+}
+
 #[test]
 fn no_sites_and_no_records() {
     for input in [&[][..], &[0], &[1], &[9], &[255, 0, 7]] {
@@ -43,7 +55,7 @@ fn no_sites_and_no_records() {
 fn refused_stopped_and_bad() {
     let mut bytes = journal(2, &[[4, 2, 0, 0, 0, 0], [17, 1, 0, 0, 1, 255], [6, 1, 0, 0, 0, 0]]);
     bytes.extend([0, 7]);
-    let text = "sites 2\n1 refused 5 qq\n2 taken Qq\n3 refused 3 Qq\n4 bad 10\nend 1 1\n";
+    let text = "sites 2\n1 refused 5 qq\n2 taken Qq -\n3 refused 3 Qq\n4 bad 10\nend 1 1\n";
     assert_eq!(rehearse(&bytes), text);
 }
 

@@ -20,11 +20,12 @@ pub enum Event {
     StopDuring(Step, u8),
 }
 
-/// Whether an accepted event was passed over, the messages written, the sites awaited.
+/// Whether an accepted event was passed over, the messages written, how many sites are awaited and
+/// the lowest of them.
 pub struct Reply {
     pub passed: bool,
     pub written: u8,
-    pub awaited: u8,
+    pub awaited: [u8; 2],
 }
 
 /// The receivers that 01 allows to a kind of message from a sender.
@@ -183,20 +184,21 @@ impl Run {
                 self.send(done.kind, s, done.receivers);
                 self.sites[s as usize - 1] = done.site;
                 let written = done.receivers.count_ones() as u8;
-                Ok(Reply { passed: done.passed, written, awaited: done.site.awaited() as u8 })
+                Ok(Reply { passed: done.passed, written, awaited: done.site.awaited() })
             }
             Event::Stop if !(1..=self.n).contains(&s) => Err(2),
             Event::Stop if self.stopped & bit(s) != 0 => Err(3),
             Event::Stop => {
                 self.stop(s);
-                Ok(Reply { passed: false, written: 0, awaited: 0 })
+                Ok(Reply { passed: false, written: 0, awaited: [0, 0] })
             }
             Event::StopDuring(step, leaving) => {
                 let done = self.step(s, step)?;
                 let receivers = done.receivers & leaving;
                 self.send(done.kind, s, receivers);
                 self.stop(s);
-                Ok(Reply { passed: false, written: receivers.count_ones() as u8, awaited: 0 })
+                let written = receivers.count_ones() as u8;
+                Ok(Reply { passed: false, written, awaited: [0, 0] })
             }
         }
     }
@@ -244,16 +246,17 @@ pub fn run_event(
     x: u8,
     answer: &mut [u8],
 ) -> u8 {
-    let Some(answer) = answer.first_chunk_mut::<3>() else {
+    let Some(answer) = answer.first_chunk_mut() else {
         return 15;
     };
     match happened(run, [k, s, o, m, v, x]) {
         Ok(reply) => {
-            *answer = [reply.passed as u8, reply.written, reply.awaited];
+            let [awaited, lowest] = reply.awaited;
+            *answer = [reply.passed as u8, reply.written, awaited, lowest];
             0
         }
         Err(ground) => {
-            *answer = [2, 0, 0];
+            *answer = [2, 0, 0, 0];
             ground
         }
     }

@@ -130,13 +130,15 @@ impl Site {
         self.others() & !self.known
     }
 
-    pub fn awaited(&self) -> u32 {
-        let awaited = match self.state {
+    /// How many sites are awaited, and the lowest of them, 0 for none.
+    pub fn awaited(&self) -> [u8; 2] {
+        let awaited: u8 = match self.state {
             State::W if self.number == 1 => self.all() & !(self.yes | self.no),
             State::W | State::P if self.leads() => self.all() & !self.acked,
             _ => 0,
         };
-        awaited.count_ones()
+        let lowest = if awaited == 0 { 0 } else { awaited.trailing_zeros() as u8 + 1 };
+        [awaited.count_ones() as u8, lowest]
     }
 
     /// Goes to a state and writes one kind of message to a set of sites.
@@ -306,19 +308,19 @@ impl Step {
 
 /// `fj_site_step`.
 pub fn site_step(site: &mut [u8], k: u8, o: u8, m: u8, v: u8, answer: &mut [u8]) -> u8 {
-    let Some(answer) = answer.first_chunk_mut::<5>() else {
+    let Some(answer) = answer.first_chunk_mut() else {
         return 15;
     };
     match stepped(site, k, o, m, v) {
         Ok(done) => {
             site.copy_from_slice(&done.site.to_bytes());
             let written = done.receivers.count_ones() as u8;
-            let awaited = done.site.awaited() as u8;
-            *answer = [done.passed as u8, done.kind, done.receivers, written, awaited];
+            let [awaited, lowest] = done.site.awaited();
+            *answer = [done.passed as u8, done.kind, done.receivers, written, awaited, lowest];
             0
         }
         Err(ground) => {
-            *answer = [2, 0, 0, 0, 0];
+            *answer = [2, 0, 0, 0, 0, 0];
             ground
         }
     }

@@ -2,7 +2,7 @@
 
 use super::lent::{Lent, Way};
 use crate::inputs::parts::PARTS;
-use fjadrimor::calls::c;
+use fjadrimor::calls::{c, DAY_ANSWER, RUN_ANSWER, SITE_ANSWER};
 
 #[derive(Clone, Copy, Debug, PartialEq, Eq, PartialOrd, Ord)]
 pub enum Entry {
@@ -133,15 +133,15 @@ impl Call {
             (Entry::SheetReport, _) | (_, 15) => {}
             (Entry::SiteStep, 0) => {
                 given.clone_from(&after.given);
-                room[..5].copy_from_slice(&after.room[..5]);
+                answered(&mut room[..SITE_ANSWER], &after.room);
             }
-            (Entry::SiteStep, _) => room[..5].copy_from_slice(&[2, 0, 0, 0, 0]),
+            (Entry::SiteStep, _) => room[..SITE_ANSWER].copy_from_slice(&[2, 0, 0, 0, 0, 0]),
             (Entry::RunFresh, _) => room.clone_from(&after.room),
             (Entry::RunEvent, 0) => {
                 given.clone_from(&after.given);
-                room[..3].copy_from_slice(&after.room[..3]);
+                answered(&mut room[..RUN_ANSWER], &after.room);
             }
-            (Entry::RunEvent, _) => room[..3].copy_from_slice(&[2, 0, 0]),
+            (Entry::RunEvent, _) => room[..RUN_ANSWER].copy_from_slice(&[2, 0, 0, 0]),
             (Entry::RunJournal, _) => (given, room) = self.day(after),
             (Entry::RecordRead, 0) => room[..6].copy_from_slice(&after.room[..6]),
             (Entry::RecordWrite, 0) => {
@@ -173,12 +173,12 @@ impl Call {
     /// nothing is as before.
     fn day(&self, after: &After) -> (Vec<u8>, Vec<u8>) {
         let (mut given, mut room) = (self.given.clone(), self.room.clone());
-        let answer = &mut room[..25];
+        let answer = &mut room[..DAY_ANSWER];
         if !is_run(&given) {
             answer.fill(0);
             return (given, room);
         }
-        answer.copy_from_slice(&after.room[..25]);
+        answered(answer, &after.room);
         let length = self.journal.len() as u64;
         let counted = u64::from_be_bytes(answer[..8].try_into().expect("eight bytes"));
         let (accepted, place) = match after.returned {
@@ -192,6 +192,17 @@ impl Call {
         }
         (given, room)
     }
+}
+
+/// An answer that was told, as far as it may be so. Its last two bytes are how many sites are awaited
+/// and the lowest of them: 0 for none, else one from which on there are as many up to site 8.
+fn answered(answer: &mut [u8], told: &[u8]) {
+    answer.copy_from_slice(&told[..answer.len()]);
+    let [.., awaited, lowest] = answer else { unreachable!("an answer ends with these") };
+    *lowest = match *awaited {
+        0 => 0,
+        awaited => (*lowest).clamp(1, 9u8.saturating_sub(awaited).max(1)),
+    };
 }
 
 /// Whether these bytes are a run: 138, with a state at each of its eight places.

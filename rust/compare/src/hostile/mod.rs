@@ -16,6 +16,7 @@ use crate::parts::LONGEST;
 use crate::sheet::{OUT, ROOM};
 use crate::tally::Tally;
 use calls::{Call, Entry};
+use fjadrimor::calls::{DAY_ANSWER, RUN_ANSWER, SITE_ANSWER};
 use lent::Way;
 use std::collections::BTreeSet;
 
@@ -71,7 +72,7 @@ impl Hostile {
     fn site_step(&mut self) -> Call {
         let site = any_site(&mut self.random);
         let [k, o, m, v] = any_step(&mut self.random, &self.steps);
-        self.call(Entry::SiteStep, [k, 0, o, m, v, 0], site, 5)
+        self.call(Entry::SiteStep, [k, 0, o, m, v, 0], site, SITE_ANSWER)
     }
 
     fn run_fresh(&mut self) -> Call {
@@ -82,13 +83,13 @@ impl Hostile {
     fn run_event(&mut self) -> Call {
         let run = any_run(&mut self.random);
         let event = self.events.next(&mut self.random, &run);
-        self.call(Entry::RunEvent, event, run, 3)
+        self.call(Entry::RunEvent, event, run, RUN_ANSWER)
     }
 
     fn run_journal(&mut self) -> Call {
         let Handover { run, journal } = self.handovers.any(&mut self.random);
         let journal = self.spoilt(journal);
-        Call { journal, ..self.call(Entry::RunJournal, [0; 6], run, 25) }
+        Call { journal, ..self.call(Entry::RunJournal, [0; 6], run, DAY_ANSWER) }
     }
 
     fn record_read(&mut self) -> Call {

@@ -4,6 +4,7 @@
 use super::runs::{any_run, sound_run, unordered_run, Event, Events, RUN};
 use super::Random;
 use crate::run::RunEvent;
+use fjadrimor::calls::RUN_ANSWER;
 use second::journal::{record_write, RECORD};
 use second::run_bytes::run_fresh;
 
@@ -56,7 +57,7 @@ impl Handovers {
 
     /// Whether a run accepts an event, which then has happened.
     fn happens(&self, run: &mut [u8], [k, s, o, m, v, x]: Event) -> bool {
-        (self.event)(run, k, s, o, m, v, x, &mut [0; 3]) == 0
+        (self.event)(run, k, s, o, m, v, x, &mut [0; RUN_ANSWER]) == 0
     }
 
     /// A run of every sort: fresh, on its way, sound, sound but about to lose that, not sound, bytes

@@ -1,7 +1,9 @@
 //! Journals for the rehearsal: one byte n, then records of nine bytes.
 
+use super::days::longest;
 use super::runs::{Event, Events, RUN};
 use super::Random;
+use fjadrimor::calls::RUN_ANSWER;
 use second::journal::record_write;
 use second::run_bytes::{run_event, run_fresh};
 
@@ -24,7 +26,7 @@ impl Journals {
     /// A journal without a bad record, of a run of n sites with so many events.
     pub fn valid(&self, random: &mut Random, n: u8, events: usize) -> Vec<u8> {
         let kind = if random.once_in(2) { &self.calm } else { &self.stormy };
-        let (mut run, mut answer) = (vec![0; RUN], [0; 3]);
+        let (mut run, mut answer) = (vec![0; RUN], [0; RUN_ANSWER]);
         run_fresh(n, &mut run);
         let mut journal = vec![n];
         while journal.len() < 1 + 9 * events {
@@ -38,15 +40,24 @@ impl Journals {
         journal
     }
 
+    /// A journal without a bad record: of a run that wanders, or now and then of the longest close, in
+    /// which a backup that gathers acknowledgements passes over what comes late.
+    fn good(&self, random: &mut Random, n: u8) -> Vec<u8> {
+        if random.once_in(8) {
+            return [vec![n], longest(n)].concat();
+        }
+        let events = random.below(u64::from(n) * 16) as usize;
+        self.valid(random, n, events)
+    }
+
     /// A journal for the rehearsal of every sort: valid, damaged, cut, shifted, random, empty,
     /// without a good n, longer than the limit.
     pub fn any(&self, random: &mut Random) -> Vec<u8> {
         let n = random.within(2, 8);
-        let events = random.below(u64::from(n) * 16) as usize;
         if random.once_in(150) {
             return self.long(random, n);
         }
-        let mut journal = self.valid(random, n, events);
+        let mut journal = self.good(random, n);
         let place = random.below(journal.len() as u64) as usize;
         match random.below(16) {
             0..=7 => {}

@@ -67,6 +67,21 @@ pub fn unordered_run(random: &mut Random, n: u8) -> Vec<u8> {
     run
 }
 
+/// A sound run in which some site leads and has heard from all below another one: that is then the
+/// lowest awaited, if it is not known to have stopped. Only the leader has messages to come.
+pub fn waiting_run(random: &mut Random, n: u8) -> Vec<u8> {
+    let mut run = sound_run(random, n);
+    let (leader, lowest) = (random.within(1, n), random.within(1, n));
+    let heard = (weight(lowest) - 1) & !weight(leader);
+    let record = &mut run[2 + 8 * (leader as usize - 1)..][..8];
+    record[2] = random.within(1, 2);
+    record[3] = leader;
+    record[5] = heard;
+    record[7] = heard;
+    run[NETWORK..].iter_mut().for_each(|receivers| *receivers &= weight(leader));
+    run
+}
+
 /// A sound run three times in four; else one byte or bit is another, or all bytes are.
 pub fn any_run(random: &mut Random) -> Vec<u8> {
     let n = random.within(2, 8);

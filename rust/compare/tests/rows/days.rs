@@ -4,6 +4,7 @@ use super::words::*;
 use compare::day::RunJournal;
 use compare::inputs::days::longest;
 use compare::inputs::pattern;
+use fjadrimor::calls::DAY_ANSWER;
 
 /// The records of these events K S O M V X.
 fn journal(events: &[[u8; 6]]) -> Vec<u8> {
@@ -11,14 +12,15 @@ fn journal(events: &[[u8; 6]]) -> Vec<u8> {
 }
 
 /// A day in words: what is returned, the accepted events, the messages written, the place, the sites
-/// awaited, and then all of the run that is not as before. The byte after the answer must stay.
+/// awaited, the lowest of them if there is one, and then all of the run that is not as before. The
+/// byte after the answer must stay.
 fn day(program: RunJournal, run: &Run, journal: &[u8]) -> String {
-    let (mut after, mut answer) = (run.0.clone(), pattern(26));
+    let (mut after, mut answer) = (run.0.clone(), pattern(DAY_ANSWER + 1));
     let returned = program(&mut after, journal, &mut answer);
-    assert_eq!(answer[25], pattern(26)[25]);
+    assert_eq!(answer.pop(), pattern(DAY_ANSWER + 1).pop());
     let number = |at: usize| u64::from_be_bytes(answer[at..at + 8].try_into().unwrap());
     let counts = format!("{} accepted {} written, at {}", number(0), number(8), number(16));
-    let answer = format!("{returned}: {counts}, {} awaited", answer[24]);
+    let answer = format!("{returned}: {counts}, {}", awaited(answer[24], answer[25]));
     [vec![answer], changes(&run.0, &after)].concat().join(", ")
 }
 
@@ -50,10 +52,10 @@ fn the_worked_close_day_by_day() {
     let close = journal(&CLOSE);
     let days = [
         "0: 0 accepted 0 written, at 0, 0 awaited",
-        "0: 1 accepted 1 written, at 9, 1 awaited, 1:w1, +Start 1>2",
+        "0: 1 accepted 1 written, at 9, 1 awaited, ring 2, 1:w1, +Start 1>2",
         "0: 2 accepted 2 written, at 18, 0 awaited, 1:w1, 2:w1, +Yes 2>1",
         "0: 3 accepted 2 written, at 27, 0 awaited, 1:w1 yes=2, 2:w1",
-        "0: 4 accepted 3 written, at 36, 1 awaited, 1:p1 yes=2, 2:w1, +Move-p 1>2",
+        "0: 4 accepted 3 written, at 36, 1 awaited, ring 2, 1:p1 yes=2, 2:w1, +Move-p 1>2",
         "0: 5 accepted 4 written, at 45, 0 awaited, 1:p1 yes=2, 2:p1, +Ack 2>1",
         "0: 6 accepted 4 written, at 54, 0 awaited, 1:p1 yes=2 acked=2, 2:p1",
         "0: 7 accepted 5 written, at 63, 0 awaited, 1:c1 yes=2 acked=2, 2:p1, +Commit 1>2",
@@ -85,7 +87,7 @@ fn the_first_refusal_ends_it() {
     let begin = journal(&CLOSE[..1]);
     let stop = journal(&[[STOP, 2, 0, 0, 0, 0]]);
     for (program, (ground, bytes)) in each(DAYS, &refused) {
-        let expected = "1 accepted 2 written, at 9, 2 awaited, 1:w1, +Start 1>2";
+        let expected = "1 accepted 2 written, at 9, 2 awaited, ring 2, 1:w1, +Start 1>2";
         let told = day(program, &before, &[&begin, *bytes, &stop].concat());
         assert_eq!(told, format!("{ground}: {expected}"), "{bytes:?}");
     }
@@ -103,8 +105,8 @@ fn cut_anywhere() {
     }
 }
 
-/// "The last accepted one's awaited number (else 0)": also where a later one is refused; 0 after a
-/// stop; that of a later event that awaits nobody is 0.
+/// "The last accepted one's awaited number (else 0)", and by 02, Ask 4 the lowest awaited site: also
+/// where a later one is refused; 0 after a stop; that of a later event that awaits nobody is 0.
 #[test]
 fn awaited_of_the_last_accepted() {
     let begin = [BEGIN, 1, 0, 0, AYE, 0];
@@ -113,7 +115,7 @@ fn awaited_of_the_last_accepted() {
         (
             run(4),
             journal(&[begin, begin]),
-            "5: 1 accepted 3 written, at 9, 3 awaited, 1:w1, +Start 1>2,3,4",
+            "5: 1 accepted 3 written, at 9, 3 awaited, ring 2, 1:w1, +Start 1>2,3,4",
         ),
         (
             run(4),
@@ -124,7 +126,8 @@ fn awaited_of_the_last_accepted() {
         (
             run(4),
             journal(&[begin, stop, [NOTICE, 1, 4, 0, 0, 0], stop]),
-            "3: 3 accepted 3 written, at 27, 2 awaited, stopped=4, 1:w1 known=4, +Start 1>2,3",
+            "3: 3 accepted 3 written, at 27, 2 awaited, ring 2, stopped=4, 1:w1 known=4, \
+             +Start 1>2,3",
         ),
     ]);
 }
@@ -177,8 +180,8 @@ fn call(program: RunJournal, run: &[u8], journal: &[u8], room: usize) -> (u8, Ve
     (program(&mut run, journal, &mut answer), run, answer)
 }
 
-/// "15 first of all, for an answer under 25 bytes, with nothing touched; 1 for bytes that are no run,
-/// before the journal is looked at, with 25 zeros."
+/// "15 first of all, for an answer under 26 bytes, with nothing touched; 1 for bytes that are no run,
+/// before the journal is looked at, with 26 zeros."
 #[test]
 fn the_grounds_of_the_interface() {
     let fresh = run(2).0;
@@ -192,10 +195,10 @@ fn the_grounds_of_the_interface() {
     let journals = [Vec::new(), vec![0], vec![0, 8], journal(&CLOSE)];
     for (program, journal) in each(DAYS, &journals) {
         for bytes in &no_runs {
-            let zeros = [&[0; 25][..], &pattern(30)[25..]].concat();
+            let zeros = [&[0; 26][..], &pattern(30)[26..]].concat();
             assert_eq!(call(program, bytes, journal, 30), (1, bytes.clone(), zeros));
         }
-        for (run, room) in no_runs.iter().chain([&fresh]).flat_map(|run| [(run, 0), (run, 24)]) {
+        for (run, room) in no_runs.iter().chain([&fresh]).flat_map(|run| [(run, 0), (run, 25)]) {
             assert_eq!(call(program, run, journal, room), (15, run.clone(), pattern(room)));
         }
     }

@@ -12,7 +12,7 @@ const FOLLOWS_4: Site = [5, 4, Q, 4, 0b00001, 0b00010, 0b00100, 0b10000];
 /// "From a sender below the leader followed: passed over, no change."
 const BELOW: &str = "passed q2 | passed w2 | passed p2 | passed a2 | passed c2";
 const BELOW_A_LEADER: &str =
-    "passed q4 | passed w4 awaits 2 | passed p4 awaits 2 | passed a4 | passed c4";
+    "passed q4 | passed w4 awaits 2, ring 2 | passed p4 awaits 2, ring 2 | passed a4 | passed c4";
 
 #[test]
 fn move_p() {
@@ -83,8 +83,10 @@ fn start() {
 #[test]
 fn yes_and_no() {
     let first = [4, 1, Q, 1, 0, 0b0010, 0, 0b1000];
-    let yes = "passed q1 | w1 yes=2,3 awaits 1 | passed p1 awaits 2 | passed a1 | passed c1";
-    let no = "passed q1 | w1 no=3 awaits 1 | passed p1 awaits 2 | passed a1 | passed c1";
+    let yes =
+        "passed q1 | w1 yes=2,3 awaits 1, ring 4 | passed p1 awaits 2, ring 2 | passed a1 | passed c1";
+    let no =
+        "passed q1 | w1 no=3 awaits 1, ring 4 | passed p1 awaits 2, ring 2 | passed a1 | passed c1";
     hold(&[(first, [DELIVER, 3, YES, 0], yes), (first, [DELIVER, 3, NO, 0], no)]);
 }
 
@@ -92,8 +94,10 @@ fn yes_and_no() {
 /// at site 3 that leads, and at site 3 that follows 1 and 2.
 #[test]
 fn ack() {
-    let at_1 = "passed q1 | passed w1 awaits 4 | p1 acked=5 awaits 3 | passed a1 | passed c1";
-    let at_3 = "passed q3 | w3 acked=5 awaits 3 | p3 acked=5 awaits 3 | passed a3 | passed c3";
+    let at_1 = "passed q1 | passed w1 awaits 4, ring 2 | p1 acked=5 awaits 3, ring 2 | \
+                passed a1 | passed c1";
+    let at_3 = "passed q3 | w3 acked=5 awaits 3, ring 1 | p3 acked=5 awaits 3, ring 1 | \
+                passed a3 | passed c3";
     let under_1 = "passed q1 | passed w1 | passed p1 | passed a1 | passed c1";
     let under_2 = "passed q2 | passed w2 | passed p2 | passed a2 | passed c2";
     hold(&[
@@ -109,14 +113,14 @@ fn ack() {
 #[test]
 fn heard_again() {
     let rows: [(Site, [u8; 4], &str); 8] = [
-        ([4, 1, W, 1, 0, 0b0100, 0, 0], [DELIVER, 3, YES, 0], "w1 awaits 2"),
-        ([4, 1, W, 1, 0, 0, 0b0100, 0], [DELIVER, 3, NO, 0], "w1 awaits 2"),
-        ([4, 1, W, 1, 0, 0, 0b0100, 0], [DELIVER, 3, YES, 0], "w1 yes=3 awaits 2"),
-        ([4, 1, W, 1, 0, 0b0100, 0, 0], [DELIVER, 3, NO, 0], "w1 no=3 awaits 2"),
-        ([4, 1, W, 1, 0b0100, 0, 0, 0], [DELIVER, 3, YES, 0], "w1 yes=3 awaits 2"),
-        ([4, 1, P, 1, 0, 0, 0, 0b0100], [DELIVER, 3, ACK, 0], "p1 awaits 2"),
-        ([4, 2, W, 2, 0b0001, 0, 0, 0b0100], [DELIVER, 3, ACK, 0], "w2 awaits 1"),
-        ([4, 2, P, 2, 0b0101, 0, 0, 0], [DELIVER, 3, ACK, 0], "p2 acked=3 awaits 1"),
+        ([4, 1, W, 1, 0, 0b0100, 0, 0], [DELIVER, 3, YES, 0], "w1 awaits 2, ring 2"),
+        ([4, 1, W, 1, 0, 0, 0b0100, 0], [DELIVER, 3, NO, 0], "w1 awaits 2, ring 2"),
+        ([4, 1, W, 1, 0, 0, 0b0100, 0], [DELIVER, 3, YES, 0], "w1 yes=3 awaits 2, ring 2"),
+        ([4, 1, W, 1, 0, 0b0100, 0, 0], [DELIVER, 3, NO, 0], "w1 no=3 awaits 2, ring 2"),
+        ([4, 1, W, 1, 0b0100, 0, 0, 0], [DELIVER, 3, YES, 0], "w1 yes=3 awaits 2, ring 2"),
+        ([4, 1, P, 1, 0, 0, 0, 0b0100], [DELIVER, 3, ACK, 0], "p1 awaits 2, ring 2"),
+        ([4, 2, W, 2, 0b0001, 0, 0, 0b0100], [DELIVER, 3, ACK, 0], "w2 awaits 1, ring 4"),
+        ([4, 2, P, 2, 0b0101, 0, 0, 0], [DELIVER, 3, ACK, 0], "p2 acked=3 awaits 1, ring 4"),
     ];
     for (program, (site, fields, expected)) in each(SITES, &rows) {
         assert_eq!(step(program, *site, *fields), *expected, "{site:?} {fields:?}");

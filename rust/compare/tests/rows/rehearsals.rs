@@ -27,11 +27,12 @@ const CLOSE: [[u8; 6]; 8] = [
     [DELIVER, 2, 1, COMMIT, 0, 0],
 ];
 
-/// "For n = 2 and begin yes, Start (yes), Yes, conclude, Move-p, Ack, conclude, Commit."
+/// "For n = 2 and begin yes, Start (yes), Yes, conclude, Move-p, Ack, conclude, Commit." 02, Ask 4:
+/// "01's example gains `2`, `-`, `-`, `2`, `-`, `-`, `-`, `-` on its eight lines."
 #[test]
 fn the_worked_rehearsal() {
-    let text = "sites 2\n1 taken wq\n2 taken ww\n3 taken ww\n4 taken pw\n5 taken pp\n6 taken pp\n\
-                7 taken cp\n8 taken cc\nend 8 5\n";
+    let text = "sites 2\n1 taken wq 2\n2 taken ww -\n3 taken ww -\n4 taken pw 2\n5 taken pp -\n\
+                6 taken pp -\n7 taken cp -\n8 taken cc -\nend 8 5\n";
     assert_eq!(text, include_str!("../../../../crates/rehearsal/stdout"));
     for program in JOURNALS {
         assert_eq!(rehearsal(program, &journal(2, &CLOSE)), text);
@@ -53,7 +54,9 @@ fn without_a_number_of_sites() {
 
 /// "Per record: its place, `taken` (any accepted stop too), `passed` or `refused N`, and a letter per
 /// site, upper case if stopped. Last: events accepted, messages written." A refused event has a line
-/// with letters, and the rehearsal goes on; passed ones and stops are accepted.
+/// with letters, and the rehearsal goes on; passed ones and stops are accepted. 02, Ask 4: "the line
+/// for a taken or passed event gains a final field, the lowest site awaited by the acting site after
+/// the event, or `-`; it is `-` after a stop."
 #[test]
 fn every_word() {
     let events = [
@@ -71,17 +74,17 @@ fn every_word() {
         [NOTICE, 2, 9, 0, 0, 0],
     ];
     let text = "sites 4\n\
-                1 taken wqqq\n\
+                1 taken wqqq 2\n\
                 2 refused 5 wqqq\n\
-                3 taken wwqq\n\
-                4 taken wwQq\n\
-                5 taken wwQQ\n\
-                6 taken wwQQ\n\
+                3 taken wwqq -\n\
+                4 taken wwQq -\n\
+                5 taken wwQQ -\n\
+                6 taken wwQQ 2\n\
                 7 refused 4 wwQQ\n\
-                8 taken WwQQ\n\
-                9 taken WwQQ\n\
-                10 taken WwQQ\n\
-                11 passed WwQQ\n\
+                8 taken WwQQ -\n\
+                9 taken WwQQ -\n\
+                10 taken WwQQ 3\n\
+                11 passed WwQQ 3\n\
                 12 bad 14\n\
                 end 9 8\n";
     for program in JOURNALS {
@@ -101,7 +104,7 @@ fn a_bad_record() {
         (&[0, 7, 1, 6, 9, 0, 0, 0, 0], "2 bad 14"),
     ];
     for (program, (bytes, line)) in each(JOURNALS, &bad) {
-        let text = format!("sites 2\n1 taken wq\n{line}\nend 1 1\n");
+        let text = format!("sites 2\n1 taken wq 2\n{line}\nend 1 1\n");
         let begun = journal(2, &CLOSE[..1]);
         assert_eq!(rehearsal(program, &[&begun[..], bytes].concat()), text);
         if bytes.len() == 9 {

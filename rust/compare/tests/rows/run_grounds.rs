@@ -177,10 +177,10 @@ fn hold(rows: &[(u8, Run, [u8; 6])]) {
     }
 }
 
-/// A call with so many bytes of room for the answer, of which an event needs three. A refused one
+/// A call with so many bytes of room for the answer, of which an event needs four. A refused one
 /// leaves the run, and an answer of outcome 2 and zeros, but after 15 none at all.
 fn call(ground: u8, run: &Run, fields: [u8; 6], room: usize) {
-    let answer = if ground == 15 { pattern(room) } else { vec![2, 0, 0] };
+    let answer = if ground == 15 { pattern(room) } else { vec![2, 0, 0, 0] };
     for program in RUNS {
         let found = compare::run::happen(program, &run.0, fields, room);
         let expected = (ground, run.0.clone(), answer.clone());
@@ -204,25 +204,25 @@ fn grounds_of_the_call() {
     let unknown = [7, 2, 0, 0, 0, 0];
     let no_vote = [BEGIN, 1, 0, 0, 0, 0];
     for fields in [good, unknown, no_vote] {
-        call(15, &run(3), fields, 2);
+        call(15, &run(3), fields, 3);
         call(15, &run(3), fields, 0);
-        call(15, &unsound(run(3)), fields, 2);
-        no_runs(&run(3)).iter().for_each(|bytes| call(15, bytes, fields, 2));
-        no_runs(&run(3)).iter().for_each(|bytes| call(1, bytes, fields, 3));
+        call(15, &unsound(run(3)), fields, 3);
+        no_runs(&run(3)).iter().for_each(|bytes| call(15, bytes, fields, 3));
+        no_runs(&run(3)).iter().for_each(|bytes| call(1, bytes, fields, 4));
     }
-    call(13, &run(3), unknown, 3);
-    call(14, &run(3), no_vote, 3);
-    call(13, &run(3), [7, 2, 0, 0, 3, 0], 3);
-    call(13, &run(3), [0, 0, 9, 9, 9, 9], 3);
-    call(13, &unsound(run(3)), unknown, 3);
-    call(13, &run(3), [16, 4, 0, 0, 0, 0], 3);
-    call(13, &without_3(), [22, 3, 0, 0, 0, 0], 3);
-    call(14, &unsound(run(3)), no_vote, 3);
-    call(14, &run(3), [STOP, 4, 1, 0, 0, 0], 3);
-    call(14, &without_3(), [STOP, 3, 0, 0, 0, 1], 3);
-    call(14, &run(3), [DELIVER, 2, 1, START, 0, 0], 3);
-    call(14, &run(3), [BEGIN, 2, 0, 0, 3, 0], 3);
-    call(14, &run(3).sent(MOVE_P, 1, 0b010), [DELIVER, 2, 1, MOVE_P, AYE, 0], 3);
+    call(13, &run(3), unknown, 4);
+    call(14, &run(3), no_vote, 4);
+    call(13, &run(3), [7, 2, 0, 0, 3, 0], 4);
+    call(13, &run(3), [0, 0, 9, 9, 9, 9], 4);
+    call(13, &unsound(run(3)), unknown, 4);
+    call(13, &run(3), [16, 4, 0, 0, 0, 0], 4);
+    call(13, &without_3(), [22, 3, 0, 0, 0, 0], 4);
+    call(14, &unsound(run(3)), no_vote, 4);
+    call(14, &run(3), [STOP, 4, 1, 0, 0, 0], 4);
+    call(14, &without_3(), [STOP, 3, 0, 0, 0, 1], 4);
+    call(14, &run(3), [DELIVER, 2, 1, START, 0, 0], 4);
+    call(14, &run(3), [BEGIN, 2, 0, 0, 3, 0], 4);
+    call(14, &run(3).sent(MOVE_P, 1, 0b010), [DELIVER, 2, 1, MOVE_P, AYE, 0], 4);
 }
 
 /// 15 and both forms of 1 with each of the event's other grounds.
@@ -236,10 +236,10 @@ fn grounds_of_the_call_and_of_the_event() {
         (6, run(3).sent(MOVE_P, 1, 0b010), [DELIVER, 2, 1, MOVE_P, 0, 0]),
     ];
     for (ground, run, fields) in events {
-        call(ground, &run, fields, 3);
-        call(15, &run, fields, 2);
-        no_runs(&run).iter().for_each(|bytes| call(1, bytes, fields, 3));
-        call(1, &unsound(run), fields, 3);
+        call(ground, &run, fields, 4);
+        call(15, &run, fields, 3);
+        no_runs(&run).iter().for_each(|bytes| call(1, bytes, fields, 4));
+        call(1, &unsound(run), fields, 4);
     }
 }
 

@@ -49,11 +49,11 @@ fn begin() {
     let knowing = run(3).stopped(0b100).site([3, 1, Q, 1, 0b100, 0, 0, 0]);
     let [aye, nay] = [AYE, NAY].map(|vote| [BEGIN, 1, 0, 0, vote, 0]);
     hold(&[
-        (run(3), aye, "taken 2 written 2 awaited, 1:w1, +Start 1>2,3"),
+        (run(3), aye, "taken 2 written 2 awaited, ring 2, 1:w1, +Start 1>2,3"),
         (run(3), nay, "taken 2 written 0 awaited, 1:a1, +Abort 1>2,3"),
-        (run(3).stopped(0b100), aye, "taken 2 written 2 awaited, 1:w1, +Start 1>2"),
+        (run(3).stopped(0b100), aye, "taken 2 written 2 awaited, ring 2, 1:w1, +Start 1>2"),
         (run(3).stopped(0b110), nay, "taken 2 written 0 awaited, 1:a1"),
-        (knowing.clone(), aye, "taken 1 written 1 awaited, 1:w1, +Start 1>2"),
+        (knowing.clone(), aye, "taken 1 written 1 awaited, ring 2, 1:w1, +Start 1>2"),
         (knowing, nay, "taken 1 written 0 awaited, 1:a1, +Abort 1>2"),
     ]);
 }
@@ -77,11 +77,19 @@ fn deliver() {
         (
             voting.clone(),
             [DELIVER, 1, 2, YES, 0, 0],
-            "taken 0 written 1 awaited, 1:w1 yes=2, -Yes 2>1",
+            "taken 0 written 1 awaited, ring 3, 1:w1 yes=2, -Yes 2>1",
         ),
-        (voting, [DELIVER, 1, 3, NO, 0, 0], "taken 0 written 1 awaited, 1:w1 no=3, -No 3>1"),
-        (prepared.clone(), [DELIVER, 1, 2, YES, 0, 0], "passed 0 written 2 awaited, -Yes 2>1"),
-        (prepared, [DELIVER, 1, 3, NO, 0, 0], "passed 0 written 2 awaited, -No 3>1"),
+        (
+            voting,
+            [DELIVER, 1, 3, NO, 0, 0],
+            "taken 0 written 1 awaited, ring 2, 1:w1 no=3, -No 3>1",
+        ),
+        (
+            prepared.clone(),
+            [DELIVER, 1, 2, YES, 0, 0],
+            "passed 0 written 2 awaited, ring 2, -Yes 2>1",
+        ),
+        (prepared, [DELIVER, 1, 3, NO, 0, 0], "passed 0 written 2 awaited, ring 2, -No 3>1"),
     ]);
 }
 
@@ -124,7 +132,7 @@ fn written_again() {
         (
             run(3).sent(START, 1, 0b100),
             [BEGIN, 1, 0, 0, AYE, 0],
-            "taken 2 written 2 awaited, 1:w1, +Start 1>2",
+            "taken 2 written 2 awaited, ring 2, 1:w1, +Start 1>2",
         ),
     ]);
 }
@@ -140,15 +148,15 @@ fn notice_take_over_conclude() {
     hold(&[
         (run(3).stopped(0b001), notice, "taken 0 written 0 awaited, 2:q1 known=1"),
         (led_by_2(Q, 1), take_over, "taken 1 written 0 awaited, 2:a2, +Abort 2>3"),
-        (led_by_2(W, 1), take_over, "taken 1 written 1 awaited, 2:w2, +Move-w 2>3"),
-        (led_by_2(P, 1), take_over, "taken 1 written 1 awaited, 2:p2, +Move-p 2>3"),
+        (led_by_2(W, 1), take_over, "taken 1 written 1 awaited, ring 3, 2:w2, +Move-w 2>3"),
+        (led_by_2(P, 1), take_over, "taken 1 written 1 awaited, ring 3, 2:p2, +Move-p 2>3"),
         (led_by_2(A, 1), take_over, "taken 1 written 0 awaited, 2:a2, +Abort 2>3"),
         (led_by_2(C, 1), take_over, "taken 1 written 0 awaited, 2:c2, +Commit 2>3"),
-        (without_3(led_by_2(P, 1)), take_over, "taken 1 written 1 awaited, 2:p2"),
+        (without_3(led_by_2(P, 1)), take_over, "taken 1 written 1 awaited, ring 3, 2:p2"),
         (answered(W), conclude, "taken 1 written 0 awaited, 2:a2, +Abort 2>3"),
         (answered(P), conclude, "taken 1 written 0 awaited, 2:c2, +Commit 2>3"),
         (without_3(answered(P)), conclude, "taken 1 written 0 awaited, 2:c2"),
-        (first(W, 0b110, 0), conclude_1, "taken 2 written 2 awaited, 1:p1, +Move-p 1>2,3"),
+        (first(W, 0b110, 0), conclude_1, "taken 2 written 2 awaited, ring 2, 1:p1, +Move-p 1>2,3"),
         (first(P, 0, 0b110), conclude_1, "taken 2 written 0 awaited, 1:c1, +Commit 1>2,3"),
     ]);
 }
@@ -166,7 +174,7 @@ fn a_leader_that_does_not_know_the_lower_sites_stopped() {
 }
 
 /// "A stop removes what is addressed to the site." What it has sent stays, its record stays, and
-/// "after any stop the awaited number is 0".
+/// "after any stop the awaited number is 0", and nobody is to be rung.
 #[test]
 fn stop() {
     let stop = |site| [STOP, site, 0, 0, 0, 0];

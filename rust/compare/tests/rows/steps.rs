@@ -1,5 +1,5 @@
 //! "Site and messages": begin, notice, take over and conclude, by the state of the site (q, w, p, a,
-//! c) and by what it has heard; and the number of sites awaited.
+//! c) and by what it has heard; and the sites awaited, their number and the lowest.
 
 use super::words::*;
 
@@ -13,9 +13,9 @@ fn begin() {
     let knowing = [4, 1, Q, 1, 0b0100, 0b0010, 0, 0];
     let alone = [4, 1, Q, 1, 0b1110, 0, 0, 0];
     hold(&[
-        (first, [BEGIN, 0, 0, AYE], "w1 Start>2,3,4 awaits 3 | 5 | 5 | 5 | 5"),
+        (first, [BEGIN, 0, 0, AYE], "w1 Start>2,3,4 awaits 3, ring 2 | 5 | 5 | 5 | 5"),
         (first, [BEGIN, 0, 0, NAY], "a1 Abort>2,3,4 | 5 | 5 | 5 | 5"),
-        (knowing, [BEGIN, 0, 0, AYE], "w1 Start>2,4 awaits 1 | 5 | 5 | 5 | 5"),
+        (knowing, [BEGIN, 0, 0, AYE], "w1 Start>2,4 awaits 1, ring 4 | 5 | 5 | 5 | 5"),
         (knowing, [BEGIN, 0, 0, NAY], "a1 Abort>2,4 | 5 | 5 | 5 | 5"),
         (alone, [BEGIN, 0, 0, AYE], "w1 | 5 | 5 | 5 | 5"),
         (alone, [BEGIN, 0, 0, NAY], "a1 | 5 | 5 | 5 | 5"),
@@ -41,13 +41,14 @@ fn notice() {
         (
             leads,
             [NOTICE, 4, 0, 0],
-            "q3 known=1,4 | w3 known=1,4 awaits 1 | p3 known=1,4 awaits 1 | a3 known=1,4 | \
-             c3 known=1,4",
+            "q3 known=1,4 | w3 known=1,4 awaits 1, ring 2 | p3 known=1,4 awaits 1, ring 2 | \
+             a3 known=1,4 | c3 known=1,4",
         ),
         (
             leads,
             [NOTICE, 1, 0, 0],
-            "passed q3 | passed w3 awaits 2 | passed p3 awaits 2 | passed a3 | passed c3",
+            "passed q3 | passed w3 awaits 2, ring 2 | passed p3 awaits 2, ring 2 | passed a3 | \
+             passed c3",
         ),
     ]);
 }
@@ -57,12 +58,13 @@ fn notice() {
 /// Move-p in p." Only the acknowledgements are cleared.
 #[test]
 fn take_over() {
-    let to_all = "a3 Abort>4,5 | w3 Move-w>4,5 awaits 2 | p3 Move-p>4,5 awaits 2 | a3 Abort>4,5 | \
-                  c3 Commit>4,5";
-    let to_4 =
-        "a3 Abort>4 | w3 Move-w>4 awaits 1 | p3 Move-p>4 awaits 1 | a3 Abort>4 | c3 Commit>4";
-    let cleared = "a2 acked=none Abort>3,4 | w2 acked=none Move-w>3,4 awaits 2 | \
-                   p2 acked=none Move-p>3,4 awaits 2 | a2 acked=none Abort>3,4 | \
+    let to_all =
+        "a3 Abort>4,5 | w3 Move-w>4,5 awaits 2, ring 4 | p3 Move-p>4,5 awaits 2, ring 4 | \
+                  a3 Abort>4,5 | c3 Commit>4,5";
+    let to_4 = "a3 Abort>4 | w3 Move-w>4 awaits 1, ring 4 | p3 Move-p>4 awaits 1, ring 4 | \
+                a3 Abort>4 | c3 Commit>4";
+    let cleared = "a2 acked=none Abort>3,4 | w2 acked=none Move-w>3,4 awaits 2, ring 3 | \
+                   p2 acked=none Move-p>3,4 awaits 2, ring 3 | a2 acked=none Abort>3,4 | \
                    c2 acked=none Commit>3,4";
     hold(&[
         ([5, 3, Q, 1, 0b00011, 0, 0, 0], [TAKE_OVER, 0, 0, 0], to_all),
@@ -184,9 +186,9 @@ fn conclude_by_the_votes() {
         "a3" => "a1 Abort>3",
         "a23" => "a1 Abort>2,3",
         "p" => "p1",
-        "p2" => "p1 Move-p>2 awaits 1",
-        "p3" => "p1 Move-p>3 awaits 1",
-        "p23" => "p1 Move-p>2,3 awaits 2",
+        "p2" => "p1 Move-p>2 awaits 1, ring 2",
+        "p3" => "p1 Move-p>3 awaits 1, ring 3",
+        "p23" => "p1 Move-p>2,3 awaits 2, ring 2",
         _ => unreachable!("{cell}"),
     };
     for (two, line) in HEARD.iter().zip(lines) {
@@ -212,7 +214,8 @@ fn conclude_at_site_1_in_w_is_by_votes_alone() {
 
 /// "The number of sites still awaited: for a leader in p, or in w other than site 1, those neither
 /// acknowledged nor known stopped; for site 1 in w, those without a vote heard and not known
-/// stopped; else 0." Seen after a notice that is passed over, which changes nothing.
+/// stopped; else 0." 02, Ask 4: "the lowest awaited site besides the number". Seen after a notice
+/// that is passed over, which changes nothing.
 #[test]
 fn awaited() {
     let passed = "passed q1 | passed w1 | passed p1 | passed a1 | passed c1";
@@ -221,19 +224,35 @@ fn awaited() {
         (
             [6, 1, Q, 1, 0b000010, 0b000100, 0b001000, 0b010000],
             [NOTICE, 2, 0, 0],
-            "passed q1 | passed w1 awaits 2 | passed p1 awaits 3 | passed a1 | passed c1",
+            "passed q1 | passed w1 awaits 2, ring 5 | passed p1 awaits 3, ring 3 | passed a1 | \
+             passed c1",
         ),
         // Who is known stopped and has been heard as well is left out once.
         (
             [6, 1, Q, 1, 0b000110, 0b000110, 0b000100, 0b000010],
             [NOTICE, 2, 0, 0],
-            "passed q1 | passed w1 awaits 3 | passed p1 awaits 3 | passed a1 | passed c1",
+            "passed q1 | passed w1 awaits 3, ring 4 | passed p1 awaits 3, ring 4 | passed a1 | \
+             passed c1",
         ),
         ([6, 1, Q, 1, 0b111110, 0, 0, 0], [NOTICE, 2, 0, 0], passed),
         (
             [6, 2, Q, 2, 0b000001, 0b000100, 0b001000, 0b010000],
             [NOTICE, 1, 0, 0],
-            "passed q2 | passed w2 awaits 3 | passed p2 awaits 3 | passed a2 | passed c2",
+            "passed q2 | passed w2 awaits 3, ring 3 | passed p2 awaits 3, ring 3 | passed a2 | \
+             passed c2",
+        ),
+        // The lowest may stand below the leader, where it is not known stopped, or be the last of all.
+        (
+            [8, 8, Q, 8, 0b00000010, 0, 0, 0],
+            [NOTICE, 2, 0, 0],
+            "passed q8 | passed w8 awaits 6, ring 1 | passed p8 awaits 6, ring 1 | passed a8 | \
+             passed c8",
+        ),
+        (
+            [8, 6, Q, 6, 0b00011111, 0, 0, 0b01000000],
+            [NOTICE, 2, 0, 0],
+            "passed q6 | passed w6 awaits 1, ring 8 | passed p6 awaits 1, ring 8 | passed a6 | \
+             passed c6",
         ),
         ([6, 2, Q, 1, 0b000001, 0, 0, 0], [NOTICE, 1, 0, 0], passed),
         ([6, 6, Q, 1, 0b000001, 0, 0, 0], [NOTICE, 1, 0, 0], passed),

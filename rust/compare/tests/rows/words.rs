@@ -8,6 +8,7 @@ use compare::parts::Writing;
 use compare::run::Runs;
 use compare::sheet::Judging;
 use compare::site::{Call, SiteStep};
+use fjadrimor::calls::{RUN_ANSWER, SITE_ANSWER};
 
 pub const SITES: [SiteStep; 2] = [fjadrimor::calls::site_step, second::bytes::site_step];
 
@@ -112,22 +113,24 @@ fn record(before: &[u8], after: &[u8]) -> String {
 }
 
 /// A step K O M V in words: its ground where it is refused, else `passed` if it is passed over, the
-/// record afterwards, the messages written and to whom, and how many sites are awaited if any is.
+/// record afterwards, the messages written and to whom, and how many sites are awaited if any is,
+/// with the lowest of them.
 /// The number of messages must be that of their receivers, and a refusal must leave the record.
 pub fn step(program: SiteStep, site: Site, fields: [u8; 4]) -> String {
-    let (ground, after, answer) = Call { site: site.to_vec(), fields, room: 5 }.made(program);
+    let call = Call { site: site.to_vec(), fields, room: SITE_ANSWER };
+    let (ground, after, answer) = call.made(program);
     if ground != 0 {
-        assert_eq!((&after[..], &answer[..]), (&site[..], &[2, 0, 0, 0, 0][..]));
+        assert_eq!((&after[..], &answer[..]), (&site[..], &[2, 0, 0, 0, 0, 0][..]));
         return ground.to_string();
     }
-    let [outcome, kind, receivers, written, awaited] = answer[..] else { unreachable!() };
+    let [outcome, kind, receivers, written, awaited, lowest] = answer[..] else { unreachable!() };
     assert_eq!(written, receivers.count_ones() as u8, "messages are counted in their receivers");
     let mut words = ["", "passed "][outcome as usize].to_string() + &record(&site, &after);
     if (kind, receivers) != (0, 0) {
         words += &format!(" {}>{}", name(kind), members(receivers));
     }
-    if awaited != 0 {
-        words += &format!(" awaits {awaited}");
+    if (awaited, lowest) != (0, 0) {
+        words += &format!(" awaits {awaited}, ring {lowest}");
     }
     words
 }
@@ -187,18 +190,26 @@ impl Run {
 }
 
 /// An event K S O M V X in words: its ground where it is refused, else `taken` or `passed`, the
-/// messages written, the sites awaited, and then all that is not as before: the stopped sites, the
-/// records, messages that are gone (`-`) and that are there now (`+`). A refusal must leave the run.
+/// messages written, the sites awaited with the lowest, and then all that is not as before: the
+/// stopped sites, the records, messages that are gone (`-`) and that are there now (`+`). A refusal must leave the run.
 pub fn event(program: Runs, run: &Run, fields: [u8; 6]) -> String {
-    let (ground, after, answer) = compare::run::happen(program, &run.0, fields, 3);
+    let (ground, after, answer) = compare::run::happen(program, &run.0, fields, RUN_ANSWER);
     if ground != 0 {
-        assert_eq!((&after, &answer[..]), (&run.0, &[2, 0, 0][..]));
+        assert_eq!((&after, &answer[..]), (&run.0, &[2, 0, 0, 0][..]));
         return ground.to_string();
     }
     let outcome = ["taken", "passed"][answer[0] as usize];
-    let answer = format!("{outcome} {} written {} awaited", answer[1], answer[2]);
+    let answer = format!("{outcome} {} written {}", answer[1], awaited(answer[2], answer[3]));
     let changes = changes(&run.0, &after);
     [vec![answer], changes].concat().join(", ")
+}
+
+/// How many sites are awaited, and the one to ring where an answer names one.
+pub fn awaited(number: u8, lowest: u8) -> String {
+    match lowest {
+        0 => format!("{number} awaited"),
+        _ => format!("{number} awaited, ring {lowest}"),
+    }
 }
 
 /// What differs between two runs, in words.

@@ -184,7 +184,7 @@ fn next_events(n: u8, run: &[u8]) -> Vec<Fields> {
 }
 
 fn accepted(run: &mut [u8], [k, s, o, m, v, x]: Fields) -> bool {
-    fjadrimor::calls::run_event(run, k, s, o, m, v, x, &mut [0; 3]) == 0
+    fjadrimor::calls::run_event(run, k, s, o, m, v, x, &mut [0; fjadrimor::calls::RUN_ANSWER]) == 0
 }
 
 /// A run to its end, with stops now and then, some of them inside a step.

@@ -2,9 +2,10 @@
 
 use super::geometry::Rect;
 use super::story::{Fate, Message, Row, Story};
-use super::svg::wrapped;
+use super::svg::{width, wrapped};
 use crate::grounds::sentence;
 use crate::rehearsal::Verdict;
+use crate::waits::numbers;
 use std::collections::BTreeMap;
 
 pub const WIDTH: f64 = 1000.0;
@@ -25,6 +26,9 @@ const WIDEST: f64 = 220.0;
 const ROW: f64 = 32.0;
 /// The width of an event's words.
 const GUTTER: f64 = 315.0;
+/// How far behind an event's words it stands whom its site awaits, and the class of that text.
+const BEHIND: f64 = 12.0;
+pub const FAINT: &str = "faint";
 
 pub struct Layout {
     pub title: Vec<String>,
@@ -34,6 +38,8 @@ pub struct Layout {
     pub bottom: f64,
     /// The words beside each event, in lines.
     pub gutter: Vec<Vec<String>>,
+    /// Behind the first of these lines, whom the acting site awaits, and where that begins.
+    pub awaits: Vec<Option<(f64, String)>>,
     /// The lines of each site.
     pub lanes: Vec<f64>,
     /// For each message how many end below it, at the same row, site and side.
@@ -49,6 +55,8 @@ impl Layout {
         let title = wrapped("title", title, WIDTH - 2.0 * MARGIN);
         let top = 104.0 + 25.0 * title.len() as f64;
         let gutter: Vec<Vec<String>> = story.rows.iter().map(words).collect();
+        let awaits =
+            story.rows.iter().zip(&gutter).map(|(row, lines)| awaits(row, lines)).collect();
         let stacks = stacks(story);
         let lifted = lifted(story, &stacks);
         let mut most = vec![0; story.rows.len() + 1];
@@ -68,7 +76,7 @@ impl Layout {
         let waits = story.messages.iter().any(|message| message.fate == Fate::Outstanding);
         let bottom = after_rows + if waits { 38.0 } else { 16.0 };
         let (lanes, notes) = (lanes(story), notes(story));
-        Layout { title, top, rows, bottom, gutter, lanes, lifted, notes, after_rows }
+        Layout { title, top, rows, bottom, gutter, awaits, lanes, lifted, notes, after_rows }
     }
 
     /// Where the line of a site runs.
@@ -161,6 +169,17 @@ fn words(row: &Row) -> Vec<String> {
         }
     }
     lines
+}
+
+/// Whom the acting site awaits, where there is room for it behind the first of the event's lines: all
+/// of them, or else the lowest and how many more.
+fn awaits(row: &Row, lines: &[String]) -> Option<(f64, String)> {
+    let sites = row.awaits?;
+    let all = format!("awaits {}", numbers(sites));
+    let lowest = format!("awaits {} and {} others", sites.iter().next()?, sites.len() - 1);
+    let start = width("words", lines.first()?) + BEHIND;
+    let fits = |text: &String| start + width(FAINT, text) <= GUTTER;
+    [all, lowest].into_iter().find(fits).map(|text| (WORDS + start, text))
 }
 
 /// The sentences of the grounds of refusal that were given, ascending, in lines.

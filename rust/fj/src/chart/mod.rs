@@ -16,7 +16,7 @@ mod tests;
 use crate::grounds::sentence;
 use crate::rehearsal::{records, transcript, Verdict};
 use geometry::Point;
-use layout::{Layout, LINE, MARGIN, NUMBERS, WIDTH, WORDS};
+use layout::{Layout, FAINT, LINE, MARGIN, NUMBERS, WIDTH, WORDS};
 use std::collections::BTreeSet;
 use story::{Row, Run, Story};
 use svg::{width, Svg};
@@ -122,25 +122,28 @@ impl Chart<'_> {
         }
     }
 
-    /// A thin line from each event's words to its site, and the words.
+    /// A thin line from each event's words to its site, the words, and whom that site awaits.
     fn guides(&mut self) {
         for (place, row) in self.story.rows.iter().enumerate() {
             let y = self.layout.rows[place];
             let end = row.site.map_or(self.layout.lane(1) - 30.0, |site| self.layout.lane(site));
-            let widths = self.layout.gutter[place].iter().map(|line| width("words", line));
-            let start = WORDS + widths.fold(0.0, f64::max) + 8.0;
+            let awaits = self.layout.awaits[place].iter();
+            let ends = self.layout.gutter[place].iter().map(|line| WORDS + width("words", line));
+            let ends = ends.chain(awaits.clone().map(|(x, text)| x + width(FAINT, text)));
+            let start = ends.fold(WORDS, f64::max) + 8.0;
             if start < end {
                 self.svg.line("guide", (start, y), (end, y));
             }
             self.svg.text("place", (NUMBERS, y + 4.5), &(place + 1).to_string());
             let class = match row.verdict {
                 Verdict::Taken => "words",
-                Verdict::Passed => "faint",
+                Verdict::Passed => FAINT,
                 Verdict::Refused(_) | Verdict::Bad(_) => "refused",
             };
             for (line, words) in self.layout.gutter[place].iter().enumerate() {
                 self.svg.text(class, (WORDS, y + 4.5 + LINE * line as f64), words);
             }
+            awaits.for_each(|(x, text)| self.svg.text(FAINT, (*x, y + 4.5), text));
         }
     }
 

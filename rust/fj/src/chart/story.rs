@@ -1,7 +1,10 @@
 //! What a chart shows: what each event did to the sites, and where each message went.
 
 use crate::rehearsal::{Line, Verdict};
+use crate::waits::awaited;
 use crate::words::{members, words, Fields};
+use fjadrimor::calls::{self, RUN_ANSWER, SITE_ANSWER};
+use fjadrimor::{Site, Sites};
 
 const RUN: usize = 138;
 const SITES: usize = 2;
@@ -14,13 +17,13 @@ pub struct Run([u8; RUN]);
 impl Run {
     fn fresh(n: u8) -> Run {
         let mut run = [0; RUN];
-        fjadrimor::calls::run_fresh(n, &mut run);
+        calls::run_fresh(n, &mut run);
         Run(run)
     }
 
     /// Takes an event; whether it was accepted.
     fn takes(&mut self, [k, s, o, m, v, x]: Fields) -> bool {
-        fjadrimor::calls::run_event(&mut self.0, k, s, o, m, v, x, &mut [0; 3]) == 0
+        calls::run_event(&mut self.0, k, s, o, m, v, x, &mut [0; RUN_ANSWER]) == 0
     }
 
     pub fn sites(&self) -> std::ops::RangeInclusive<u8> {
@@ -50,6 +53,12 @@ impl Run {
         self.record(site)[3] == site
     }
 
+    /// Whom a site awaits; a stopped one awaits nobody.
+    fn awaits(&self, site: u8) -> Option<Sites> {
+        let record = self.record(site).try_into().ok().filter(|_| !self.stopped(site))?;
+        awaited(Site::from_bytes(record).ok()?).map(|awaited| awaited.from)
+    }
+
     fn outstanding(&self, kind: u8, from: u8, to: u8) -> bool {
         let place = NETWORK + 8 * usize::from(kind - 1) + usize::from(from - 1);
         members(self.0[place]).any(|receiver| receiver == to)
@@ -64,8 +73,8 @@ impl Run {
     /// What the step of an event does, were it not cut short.
     fn step(&self, [k, s, o, m, v, _]: Fields) -> Step {
         let mut site = self.record(s).to_vec();
-        let mut answer = [0; 5];
-        fjadrimor::calls::site_step(&mut site, k & 15, o, m, v, &mut answer);
+        let mut answer = [0; SITE_ANSWER];
+        calls::site_step(&mut site, k & 15, o, m, v, &mut answer);
         Step { passed: answer[0] == 1, kind: answer[1], receivers: answer[2] }
     }
 }
@@ -83,6 +92,8 @@ pub struct Row {
     pub verdict: Verdict,
     /// The acting site, where the run has it.
     pub site: Option<u8>,
+    /// Whom that site awaits after an accepted event, if anybody.
+    pub awaits: Option<Sites>,
     /// The run after the event.
     pub run: Run,
 }
@@ -122,7 +133,8 @@ impl Story {
         let mut run = fresh;
         for line in lines {
             let before = run.clone();
-            if let Some(fields) = line.fields.filter(|fields| run.takes(*fields)) {
+            let accepted = line.fields.filter(|fields| run.takes(*fields));
+            if let Some(fields) = accepted {
                 if fields[0] != 6 {
                     story.step(fields, &before, &run);
                 }
@@ -132,6 +144,7 @@ impl Story {
                 words: line.fields.map(words).unwrap_or_default(),
                 verdict: line.verdict,
                 site: line.fields.map(|fields| fields[1]).filter(|s| run.sites().contains(s)),
+                awaits: accepted.and_then(|[_, s, ..]| run.awaits(s)),
                 run: run.clone(),
             });
         }

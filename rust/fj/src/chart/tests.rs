@@ -35,7 +35,16 @@ pub fn wandering(n: u8, seed: u64) -> Vec<u8> {
         }
         let mut record = [0; 9];
         assert_eq!(fjadrimor::calls::record_write(k, s, o, m, v, x, &mut record, 0), 0);
-        if fjadrimor::calls::run_event(&mut run, k, s, o, m, v, x, &mut [0; 3]) == 0
+        if fjadrimor::calls::run_event(
+            &mut run,
+            k,
+            s,
+            o,
+            m,
+            v,
+            x,
+            &mut [0; fjadrimor::calls::RUN_ANSWER],
+        ) == 0
             || up_to(100) == 0
         {
             journal.extend(record);
@@ -108,6 +117,33 @@ fn the_picture_is_whole_and_always_the_same() {
     // Two strokes for each stop, and two in the legend.
     assert_eq!(drawn.matches("class=\"stop\"").count(), 2 * 2 + 2);
     assert!(!drawn.contains("NaN") && !drawn.contains("inf"));
+}
+
+/// What a picture says of whom sites await, in the order of the events.
+fn awaited(text: &str) -> Vec<String> {
+    let drawn = picture(text);
+    let texts = drawn.split(">awaits ").skip(1);
+    texts.map(|rest| rest.split('<').next().unwrap_or_default().to_string()).collect()
+}
+
+#[test]
+fn whom_a_site_awaits_stands_behind_its_event() {
+    let text = "sites 3\nbegin 1 yes\ndeliver 2 start from 1 yes\ndeliver 1 yes from 2\n\
+                conclude 1\nstop 3\nnotice 1 of 3";
+    assert_eq!(awaited(text), ["2 and 3", "3"]);
+    let backup = "sites 3\nbegin 1 yes\ndeliver 2 start from 1 yes\nstop 1\nnotice 2 of 1\n\
+                  take over 2\nstop 2";
+    assert_eq!(awaited(backup), ["2 and 3", "3"]);
+}
+
+/// A message of a dead leader comes late to its backup, whose event has a long line.
+#[test]
+fn the_lowest_awaited_has_room_where_all_have_none() {
+    let votes = |site| format!("deliver {site} start from 1 yes\ndeliver 1 yes from {site}\n");
+    let votes: String = (2..=8).map(votes).collect();
+    let late = "conclude 1\nstop 1\nnotice 2 of 1\ntake over 2\ndeliver 2 move-p from 1";
+    let told = awaited(&format!("sites 8\nbegin 1 yes\n{votes}{late}"));
+    assert_eq!(told[told.len() - 2..], ["3, 4, 5, 6, 7 and 8", "3 and 5 others"]);
 }
 
 #[test]

@@ -15,8 +15,8 @@ fn a_good_close_ends_with_no_record_left() {
                 states of the sites: cc\n\
                 ended with no record left, at byte 72 of the records\n";
     assert_eq!(day(&[], "good-close-two"), came(0, told, ""));
-    assert_eq!(day(&["--plain"], "good-close-two"), came(0, "8 5 72 0 0\n", ""));
-    assert_eq!(fj(&["day", "--plain", "-"], b"sites 2"), came(0, "0 0 0 0 0\n", ""));
+    assert_eq!(day(&["--plain"], "good-close-two"), came(0, "8 5 72 0 0 0\n", ""));
+    assert_eq!(fj(&["day", "--plain", "-"], b"sites 2"), came(0, "0 0 0 0 0 0\n", ""));
 }
 
 #[test]
@@ -25,12 +25,12 @@ fn one_record_too_early_ends_it() {
     let told = format!(
         "events accepted: 4, messages written: 4\n\
          states of the sites: www\n\
-         sites that site 1 still awaits: 1\n\
+         sites that site 1 still awaits: 1; ring site 3\n\
          ended at event 5, byte 36 of the records: {refused}\n"
     );
     let wrong = format!("fj: one-record-early.journal:16: {refused}\n");
     assert_eq!(day(&[], "one-record-early"), came(1, &told, &wrong));
-    assert_eq!(day(&["--plain"], "one-record-early"), came(1, "4 4 36 1 5\n", &wrong));
+    assert_eq!(day(&["--plain"], "one-record-early"), came(1, "4 4 36 1 3 5\n", &wrong));
 }
 
 /// A rehearsal would name the bad record first; the call does not come to it.
@@ -48,7 +48,7 @@ fn the_first_of_a_refused_and_a_bad_record_ends_it() {
     let torn = "sites 2\nbegin 1 yes\nbytes 00\nconclude 1\n";
     let short = "refused 11: the record's length is not 7; no more is read";
     assert_eq!(said("day", torn.as_bytes()), trouble(&format!(":3: {short}")));
-    assert_eq!(fj(&["day", "--plain", "-"], torn.as_bytes()).1, "1 1 9 1 11\n");
+    assert_eq!(fj(&["day", "--plain", "-"], torn.as_bytes()).1, "1 1 9 1 2 11\n");
 }
 
 #[test]

@@ -33,7 +33,7 @@ fn a_bad_record_is_told_with_its_line() {
     assert_eq!(said("assemble", b"sites 9"), (Some(0), String::new()));
     // What was read before counts all the same.
     let (_, printed, _) = fj(&["rehearse", "--plain", "-"], text.as_bytes());
-    assert_eq!(printed, "sites 2\n1 taken wq\n2 bad 12\nend 1 1\n");
+    assert_eq!(printed, "sites 2\n1 taken wq 2\n2 bad 12\nend 1 1\n");
 }
 
 #[test]
@@ -115,7 +115,7 @@ fn a_refused_event_is_trouble_where_it_is_to_be() {
         assert_eq!(said(command, text), trouble(first));
     }
     let (_, printed, _) = fj(&["rehearse", "--strict", "--plain", "-"], text);
-    assert_eq!(printed, "sites 3\n1 taken wqq\n2 refused 5 wqq\n3 refused 5 wqq\nend 1 2\n");
+    assert_eq!(printed, "sites 3\n1 taken wqq 2\n2 refused 5 wqq\n3 refused 5 wqq\nend 1 2\n");
     let one = assembled("sites 2\nbegin 1 yes\nstop 7\n");
     let only = ": record 2: refused 2: there is no site 7: the run has 2 sites";
     assert_eq!(said("rehearse --strict", &one), trouble(only));
@@ -130,7 +130,7 @@ fn the_transcript_stands_at_the_left_and_below_it_how_the_run_stands() {
     let text = b"sites 3\nbegin 1 yes\ndeliver 2 start from 1 yes\nstop 3\n";
     let (_, plain, _) = fj(&["rehearse", "--plain", "-"], text);
     let (_, told, _) = fj(&["rehearse", "-"], text);
-    let left: Vec<&str> = told.lines().map(|line| line.get(..11).unwrap_or(line).trim()).collect();
+    let left: Vec<&str> = told.lines().map(|line| line.get(..13).unwrap_or(line).trim()).collect();
     assert_eq!(left[..5], plain.lines().collect::<Vec<_>>());
     let below: Vec<&str> = told.lines().skip(5).map(str::trim).collect();
     let expected = [
@@ -146,12 +146,12 @@ fn what_may_happen_next_can_be_added_to_the_journal() {
     let text = "sites 2\nbegin 1 yes\n";
     let (status, printed, wrong) = fj(&["next", "-"], text.as_bytes());
     assert_eq!((status, &*wrong), (Some(0), ""));
-    let expected = "deliver 2 start from 1 yes                        # taken ww\n\
-                    deliver 2 start from 1 no                         # taken wa\n\
-                    stop 1                                            # taken Wq\n\
-                    stop 2                                            # taken wQ\n\
-                    stop 2 during deliver start from 1 yes leaving 1  # taken wQ\n\
-                    stop 2 during deliver start from 1 no leaving 1   # taken wQ\n";
+    let expected = "deliver 2 start from 1 yes                        # taken ww -\n\
+                    deliver 2 start from 1 no                         # taken wa -\n\
+                    stop 1                                            # taken Wq -\n\
+                    stop 2                                            # taken wQ -\n\
+                    stop 2 during deliver start from 1 yes leaving 1  # taken wQ -\n\
+                    stop 2 during deliver start from 1 no leaving 1   # taken wQ -\n";
     assert_eq!(printed, expected);
     for line in printed.lines() {
         let longer = format!("{text}{line}\n");

@@ -5,7 +5,7 @@ use mathlib.Core.Path.{sym, _∙_}
 use borrow.Author.Tests.{lt-ltb, le-ltb, not-true, not-false}
 use lib.ListN.{replicate}
 use Rattle.packed.proofs.BytesLaws.{run-sized}
-use Rattle.embed.specs.DayCall.{dayCall}
+use Rattle.embed.specs.DayCall.{dayAnswer, dayCall}
 use Rattle.embed.proofs.Calls.{put-front}
 use borrow.Author.Needs.{needs}
 use Rattle.embed.proofs.day_calls.fj_run_journal.Statement.{statement}
@@ -32,7 +32,7 @@ same-length-2 c = search needs
 
 returns-2 : tie.Need-returns-2
 unfolding dayCall
-returns-2 c = simp (le-ltb _ _ (c .before .before .before .before .before .before .before .before .if1 .left), sym (c .before .before .before .before .before .before .is-run .ensures) ∙ not-true _ (c .before .before .before .before .before .if2 .taken), c .before .before .put .ensures .1 ∙ put-front (replicate 25 0) (c .before .before .before .before .before .before .before .before .before .before .before .before .args .answer .now) (c .before .before .before .before .before .before .before .before .if1 .left))
+returns-2 c = simp (le-ltb _ _ (c .before .before .before .before .before .before .before .before .if1 .left), sym (c .before .before .before .before .before .before .is-run .ensures) ∙ not-true _ (c .before .before .before .before .before .if2 .taken), c .before .before .put .ensures .1 ∙ put-front (replicate dayAnswer 0) (c .before .before .before .before .before .before .before .before .before .before .before .before .args .answer .now) (c .before .before .before .before .before .before .before .before .if1 .left))
 
 take-journal-requires : tie.Need-take-journal-requires
 take-journal-requires c κs = (run-sized _ (sym (c .before .before .before .is-run .ensures) ∙ not-false _ (c .before .before .if2 .left)), search needs)

@@ -3,10 +3,9 @@
 use Prim.Native.Nat.{ℕ}
 use mathlib.Core.List.{List, [], _∷_, _++_}
 use mathlib.Core.Path.{_∙_}
-use native.Mathlib.Omega.{arith}
 use lib.ListN.{drop}
-use Rattle.embed.specs.DayCall.{dayBytes}
-use Rattle.embed.proofs.DayCalls.{last-fits, answer-length, answer-put}
+use Rattle.embed.specs.DayCall.{dayAnswer, dayBytes}
+use Rattle.embed.proofs.DayCalls.{answer-put}
 use borrow.Author.Needs.{needs}
 use Rattle.embed.proofs.day_calls.put_day.Statement.{statement}
 use Rattle.embed.proofs.day_calls.put_day.Tie as tie
@@ -38,15 +37,22 @@ slice-aggregate-put-3 c = search needs
 put-requires-3 : tie.Need-put-requires-3
 put-requires-3 c κs = search needs
 
-slice-write-room : tie.Need-slice-write-room
-slice-write-room c = omega (arith, last-fits (c .before .before .before .before .before .before .before .before .before .before .before .before .before .before .before .before .before .before .before .args .room .now) (c .before .before .before .before .before .before .before .before .before .before .before .before .before .before .before .before .eight .result) (c .before .before .before .before .before .before .before .before .before .before .eight2 .result) (c .before .before .before .before .eight3 .result) (c .before .before .before .before .before .before .before .before .before .before .before .before .before .before .before .before .before .before .before .args .day .awaited) (search needs) (search needs) (search needs) (c .before .before .before .before .before .before .before .before .before .before .before .before .before .before .before .before .before .before .before .pre) (c .before .before .before .before .before .before .before .before .before .before .before .before .before .before .put .ensures) (c .before .before .before .before .before .before .before .before .put2 .ensures) (c .before .before .put3 .ensures))
+slice-aggregate-put-4 : tie.Need-slice-aggregate-put-4
+slice-aggregate-put-4 c = search needs
+
+put-requires-4 : tie.Need-put-requires-4
+put-requires-4 c κs = search needs
 
 same-length : tie.Need-same-length
-same-length c = answer-length (c .before .before .before .before .before .before .before .before .before .before .before .before .before .before .before .before .before .before .before .args .room .now) (c .before .before .before .before .before .before .before .before .before .before .before .before .before .before .before .before .eight .result) (c .before .before .before .before .before .before .before .before .before .before .eight2 .result) (c .before .before .before .before .eight3 .result) (c .before .before .before .before .before .before .before .before .before .before .before .before .before .before .before .before .before .before .before .args .day .awaited) (search needs) (search needs) (search needs) (c .before .before .before .before .before .before .before .before .before .before .before .before .before .before .before .before .before .before .before .pre) (c .before .before .before .before .before .before .before .before .before .before .before .before .before .before .put .ensures) (c .before .before .before .before .before .before .before .before .put2 .ensures) (c .before .before .put3 .ensures)
+same-length c = search needs
 
 returns : tie.Need-returns
 unfolding dayBytes
-returns c = answer-put (c .before .before .before .before .before .before .before .before .before .before .before .before .before .before .before .before .before .before .before .args .room .now) (c .before .before .before .before .before .before .before .before .before .before .before .before .before .before .before .before .eight .result) (c .before .before .before .before .before .before .before .before .before .before .eight2 .result) (c .before .before .before .before .eight3 .result) (c .before .before .before .before .before .before .before .before .before .before .before .before .before .before .before .before .before .before .before .args .day .awaited) (search needs) (search needs) (search needs) (c .before .before .before .before .before .before .before .before .before .before .before .before .before .before .before .before .before .before .before .pre) (c .before .before .before .before .before .before .before .before .before .before .before .before .before .before .put .ensures) (c .before .before .before .before .before .before .before .before .put2 .ensures) (c .before .before .put3 .ensures) ∙ (λ i. ((c .before .before .before .before .before .before .before .before .before .before .before .before .before .before .before .before .eight .ensures) i ++ ((c .before .before .before .before .before .before .before .before .before .before .eight2 .ensures) i ++ ((c .before .before .before .before .eight3 .ensures) i ++ (c .before .before .before .before .before .before .before .before .before .before .before .before .before .before .before .before .before .before .before .args .day .awaited ∷ [])))) ++ drop 25 (c .before .before .before .before .before .before .before .before .before .before .before .before .before .before .before .before .before .before .before .args .room .now))
+returns c =
+    let room = c .before .before .before .before .before .before .before .before .before .before .before .before .before .before .before .before .before .before .before .before .before .before .before .before .args .room .now in
+    let day = c .before .before .before .before .before .before .before .before .before .before .before .before .before .before .before .before .before .before .before .before .before .before .before .before .args .day in
+    answer-put room (c .before .before .before .before .before .before .before .before .before .before .before .before .before .before .before .before .before .before .before .before .before .eight .result) (c .before .before .before .before .before .before .before .before .before .before .before .before .before .before .before .eight2 .result) (c .before .before .before .before .before .before .before .before .before .eight3 .result) (day .awaited) (day .lowest) (search needs) (search needs) (search needs) (c .before .before .before .before .before .before .before .before .before .before .before .before .before .before .before .before .before .before .before .before .before .before .before .before .pre) (c .before .before .before .before .before .before .before .before .before .before .before .before .before .before .before .before .before .before .before .put .ensures) (c .before .before .before .before .before .before .before .before .before .before .before .before .before .put2 .ensures) (c .before .before .before .before .before .before .before .put3 .ensures) (c .before .before .put4 .ensures)
+    ∙ (λ i. ((c .before .before .before .before .before .before .before .before .before .before .before .before .before .before .before .before .before .before .before .before .before .eight .ensures) i ++ ((c .before .before .before .before .before .before .before .before .before .before .before .before .before .before .before .eight2 .ensures) i ++ ((c .before .before .before .before .before .before .before .before .before .eight3 .ensures) i ++ (day .awaited ∷ day .lowest ∷ [])))) ++ drop dayAnswer room)
 
 pub put-day-spec : {M : Type 1} → statement M
 put-day-spec =
@@ -61,6 +67,7 @@ put-day-spec =
     eight-requires-3
     slice-aggregate-put-3
     put-requires-3
-    slice-write-room
+    slice-aggregate-put-4
+    put-requires-4
     same-length
     returns)

@@ -21,7 +21,7 @@ same-length : tie.Need-same-length
 same-length c = search needs
 
 returns : tie.Need-returns
-returns c = c .before .before .put .ensures .1 ∙ simp (c .before .before .before .before .outcome-byte .ensures) (put-front (outcomeByte (c .before .before .before .before .before .before .before .args .outcome) ∷ c .before .before .before .before .before .before .before .args .counts .written ∷ c .before .before .before .before .before .before .before .args .counts .awaited ∷ []) (c .before .before .before .before .before .before .before .args .room .now) (c .before .before .before .before .before .before .before .pre))
+returns c = c .before .before .put .ensures .1 ∙ simp (c .before .before .before .before .before .outcome-byte .ensures) (put-front (outcomeByte (c .before .before .before .before .before .before .before .args .outcome) ∷ c .before .before .before .before .before .before .before .args .counts .written ∷ c .before .before .before .before .before .before .before .args .counts .awaited ∷ c .before .before .before .before .before .before .before .args .counts .lowest ∷ []) (c .before .before .before .before .before .before .before .args .room .now) (c .before .before .before .before .before .before .before .pre))
 
 pub put-ran-spec : {M : Type 1} → statement M
 put-ran-spec =

@@ -17,7 +17,7 @@ same-length : tie.Need-same-length
 same-length c = search needs
 
 returns : tie.Need-returns
-returns c = (refl, c .before .before .put .ensures .1 ∙ put-front (2 ∷ 0 ∷ 0 ∷ []) (c .before .before .before .before .before .before .args .room .now) (c .before .before .before .before .before .before .pre))
+returns c = (refl, c .before .before .put .ensures .1 ∙ put-front (2 ∷ 0 ∷ 0 ∷ 0 ∷ []) (c .before .before .before .before .before .before .args .room .now) (c .before .before .before .before .before .before .pre))
 
 pub refuse-spec : {M : Type 1} → statement M
 refuse-spec = tie.close (tie.spec slice-aggregate-put put-requires same-length returns)
