@@ -1,4 +1,4 @@
-//! A refusal in words: 01's number, its sentence and, where it can be pointed at, the place.
+//! A refusal in words: the documents' number, its sentence and, where it can be pointed at, the place.
 
 use super::model::{Mark, Sheet, Site, Transition};
 use super::search::{Global, Search};
