@@ -111,9 +111,12 @@ enum {
     FJ_FEW_WORDS = 20,     /* fewer than 4,096 words are lent */
     FJ_SHEET_SIZE = 21,    /* fewer than 2 bytes, not exactly 2 + L, or L is 0 */
     FJ_SHEET_VERSION = 22, /* the sheet's version is not 1 */
-    FJ_SHEET_COUNTS = 23,  /* a site or state count is missing or outside its range */
-    FJ_SHEET_LENGTH = 24,  /* no transition count, more than 64, or L is not what the counts give */
-    FJ_SHEET_RANGE = 25,   /* a mark, site, state or vote outside its range */
+    FJ_SHEET_COUNTS = 23,  /* a site or state count is missing or outside its range; in the writer also
+                              parts that are not 810 bytes long, or an absent site with a count */
+    FJ_SHEET_LENGTH = 24,  /* no transition count, more than 64, or L is not what the counts give; in the
+                              writer also a transition beyond their number */
+    FJ_SHEET_RANGE = 25,   /* a mark, site, state or vote outside its range; in the writer also a mark of
+                              a state that is not there */
     FJ_READS_NOTHING = 26, /* a transition reads nothing */
     FJ_READ_TWICE = 27,    /* a message is read by two sites */
     FJ_NOT_FINAL = 28,     /* abort leads to non-abort, or commit to non-commit */
@@ -410,7 +413,9 @@ size_t fj_sheet_report(const uint8_t *sheet, size_t sheet_len, uint64_t *words, 
  *    37 to 40   the messages outstanding at first, big-endian
  *    41         the number of transitions
  *    42 to 809  64 transitions of 12 bytes, as in the record
- * To edit a sheet, read its parts, change them and write them: the writer finds every length.
+ * To edit a sheet, read its parts, change them and write them: the writer finds every length. Whatever
+ * is taken out must be zeroed, or it is refused: with fewer transitions the bytes behind the last one
+ * (24), with fewer states the marks of those that are gone (25), with fewer sites their counts too (23).
  */
 
 /*
@@ -421,9 +426,9 @@ size_t fj_sheet_report(const uint8_t *sheet, size_t sheet_len, uint64_t *words, 
 uint8_t fj_sheet_parts(const uint8_t *sheet, size_t sheet_len, uint8_t *parts, size_t parts_len);
 
 /*
- * Writes the record of a sheet's parts at the front of room; its own first two bytes tell how long
- * it is, and FJ_SHEET_ROOM bytes are enough for every one. Returns 0, or the refusal with the room
- * as it was:
+ * Writes the record of a sheet's parts at the front of room. It has 2 + L bytes, where L stands in its
+ * first two, big-endian; FJ_SHEET_ROOM bytes are enough for every one. Returns 0, or the refusal with
+ * the room as it was:
  *   23  parts is not 810 bytes long; the number of sites or a state count is outside its range; an
  *       absent site has a count
  *   24  more than 64 transitions, or something where a transition beyond their number would stand

@@ -85,5 +85,5 @@ partsCall sheet room =
     (cond (eqb (sheetGround sheet) 0) (leaves 0 (partsPut (sheetOf sheet) room)) (leaves (sheetGround sheet) room))
 
 -- `fj_sheet_write`: the writer's answer on the sheet that the bytes tell; bytes that tell none have no sites, which is 23
-unfoldable pub writeCall : List ℕ → List ℕ → Left
-writeCall parts room = leaves (writeOf (partsFrom parts) room .0 .refusal) (writeOf (partsFrom parts) room .1)
+unfoldable pub sheetWriteCall : List ℕ → List ℕ → Left
+sheetWriteCall parts room = leaves (writeOf (partsFrom parts) room .0 .refusal) (writeOf (partsFrom parts) room .1)

@@ -7,7 +7,7 @@ ghost use lib.ListN.{length, drop, replicate};
 ghost use Rattle.text.specs.Text.{Put};
 ghost use Rattle.report.specs.Report.{Reported};
 ghost use Rattle.embed.specs.Bytes.{leaves};
-ghost use Rattle.embed.specs.SheetCalls.{flagOf, flagsOf, localBytes, headBytes, verdictBytes, JudgeCall, partsCall, writeCall};
+ghost use Rattle.embed.specs.SheetCalls.{flagOf, flagsOf, localBytes, headBytes, verdictBytes, JudgeCall, partsCall, sheetWriteCall};
 use judge::Local;
 use judge::Verdict;
 
@@ -158,7 +158,7 @@ pub extern "C" fn fj_sheet_parts(bytes: &[u8], parts: &mut [u8]) -> u8
 // The record of a sheet's parts, at the front of the room. Returns 0 or the refusal.
 #[no_mangle]
 pub extern "C" fn fj_sheet_write(parts: &[u8], room: &mut [u8]) -> u8
-    ensures { λ r. ⌜ leaves r (now (room .exit)) ≡ writeCall (now (parts .entry)) (now (room .entry)) ⌝ }
+    ensures { λ r. ⌜ leaves r (now (room .exit)) ≡ sheetWriteCall (now (parts .entry)) (now (room .entry)) ⌝ }
 {
     let told = sheet::from_parts(parts);
     let written = sheet::write(told, room);

@@ -5,14 +5,14 @@ use mathlib.Core.List.{List, [], _∷_, _++_, flatMap}
 use mathlib.Core.Path.{_≡_, refl, sym, ap, ap₂, subst, _∙_}
 use native.Mathlib.Nat.{add-zero}
 use native.Mathlib.Omega.{arith}
-use lib.ListN.{length, getD, take, drop}
+use lib.ListN.{length, getD}
 use Rattle.text.proofs.TextLaws.{one-by-one}
 use Rattle.sheet.specs.Index.{table}
 use Rattle.sheet.specs.Record.{byte, fourAt, transitionFrom, noTransition}
 use Rattle.sheet.specs.Write.{fourBytes, transitionBytes}
 use Rattle.sheet.specs.declared.Transition.{Transition}
 use Rattle.sheet.proofs.IndexLaws.{table-same}
-use Rattle.sheet.proofs.Pieces.{At, at-as, at-byte, at-first, at-next, cutAt, cut-then, read-back, written-again}
+use Rattle.sheet.proofs.Pieces.{At, at-as, at-byte, at-first, at-next, cutAt, cut-then, read-back, all-back, written-again}
 use Rattle.sheet.proofs.WriteLaws.{transition-length}
 
 -- ---- read back
@@ -99,6 +99,11 @@ pub bytes-read : {l : List ℕ} {at : ℕ} (part : List ℕ) → At l at part �
 bytes-read {l} {at} part p k h =
     ap (byte l) (let e : at + k ≡ at + 1 * k = omega arith in e)
     ∙ read-back 0 1 single byte (λ x. refl) {l = l} {at = at} byte-read part (subst (At l at) (sym (singles part)) p) k h
+
+pub bytes-back : {l : List ℕ} {at : ℕ} (part : List ℕ) (n : ℕ) → length part ≡ n → At l at part → table (λ (k : ℕ). byte l (at + k)) n ≡ part
+bytes-back {l} {at} part n e p =
+    table-same (λ (k : ℕ). byte l (at + k)) (λ (k : ℕ). byte l (at + 1 * k)) n (λ k b. ap (byte l) (let s : at + k ≡ at + 1 * k = omega arith in s))
+    ∙ all-back 0 1 single byte (λ x. refl) {l = l} {at = at} byte-read part n e (subst (At l at) (sym (singles part)) p)
 
 pub bytes-again : (l : List ℕ) (at n : ℕ) → at + n ≤ length l → table (λ (k : ℕ). byte l (at + k)) n ≡ cutAt l at n
 bytes-again l at n h =

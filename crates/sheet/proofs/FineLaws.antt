@@ -263,13 +263,11 @@ module _ (l : List ℕ) (small : (k : ℕ) → byte l k < 256) (p : Passes l) wh
         most = sites-among l (p .frame) .high;
         some = λ i h. count-there l (p .frame) i h .low;
         many = count-few l (p .frame);
-        absent = count-absent l (p .frame);
+        blank = record { absent = count-absent l (p .frame); unmarked = mark-none l; rest = move-none l };
         marks = mark-small l p;
-        unmarked = mark-none l;
         first = word-small l small _;
         few = moves-few l (p .frame);
         each = fine-move;
-        rest = move-none l;
         apart = reads-apart (partsOf l) (p .parts);
         acyclic = none;
       }

@@ -5,10 +5,11 @@ use mathlib.Core.Bool.{Bool, true, false, _&&_, _||_, false≢true, or-true, or-
 use mathlib.Core.List.{List, [], _∷_, _++_}
 use mathlib.Core.Path.{_≡_, refl, sym, ap, ap₂, _∙_}
 use native.Mathlib.Decide.{ℕ-discrete, decLt}
+use native.Mathlib.Nat.{add-suc}
 use native.Mathlib.Numerals.{add-one}
 use native.Mathlib.Omega.{arith}
-use lib.ListN.{length, getD, set, take, length-set, length-append, List·getD-append}
-use lib.Seq.{getD-set-same, getD-set-other, getD-at, ext-getD, take-all, take-append-le}
+use lib.ListN.{length, getD, set, take, drop, length-set, length-append, drop-of-length-le, List·getD-append}
+use lib.Seq.{getD-set-same, getD-set-other, getD-at, ext-getD, take-all, take-append-le, drop-append-le}
 use Rattle.sheet.specs.Index.{someBelow, sumBelow, table}
 
 or-left : (a b : Bool) → a ≡ true → (a || b) ≡ true
@@ -146,6 +147,15 @@ module _ {A : Type 0} where
       go before (yes q) = take-all m (table f n ++ (f n ∷ [])) (omega (arith, q, length-append (table f n) (f n ∷ []), length-table f n)) ∙ ap (table f) (sym q)
       go before (no q) =
           take-append-le m (table f n) (f n ∷ []) (omega (arith, length-table f n)) ∙ before (omega arith)
+
+  -- the places from m on
+  pub table-drop : (f : ℕ → A) (m n : ℕ) → drop m (table f (m + n)) ≡ table (λ (k : ℕ). f (m + k)) n
+  unfolding table
+  table-drop f m zero = drop-of-length-le (table f (m + 0)) {i = m} (omega (arith, length-table f (m + 0)))
+  table-drop f m (suc n) =
+      ap (λ (k : ℕ). drop m (table f k)) (add-suc m n)
+      ∙ drop-append-le m (table f (m + n)) (f (m + n) ∷ []) (omega (arith, length-table f (m + n)))
+      ∙ ap (λ (l : List A). l ++ (f (m + n) ∷ [])) (table-drop f m n)
 
   pub table-at : (f : ℕ → A) (n k : ℕ) (d : A) → k < n → getD (table f n) k d ≡ f k
   unfolding table

@@ -1,29 +1,29 @@
 -- The parts as bytes: their pieces and their length; bytes put and read again are the same parts, and parts read and put again the same bytes.
 -- Assumes nothing.
-use Prim.Native.Nat.{ℕ, _+_, _*_, _%_, _≤_, _<_}
-use mathlib.Core.List.{List, [], _∷_, _++_, flatMap, flatten, append-nil, append-assoc}
-use mathlib.Core.Path.{_≡_, refl, sym, ap, ap₂, subst, _∙_}
+use Prim.Native.Nat.{ℕ, _+_, _*_, _%_, _<_}
+use mathlib.Core.List.{List, [], _∷_, _++_, flatMap, flatten, append-nil}
+use mathlib.Core.Path.{_≡_, sym, ap, ap₂, _∙_}
 use native.Mathlib.Omega.{arith}
 use borrow.Author.Tests.{eq-eqb, lt-ltb}
-use lib.ListN.{length, getD, take, length-append}
-use lib.Seq.{take-all, ext-getD}
+use lib.ListN.{length, take, length-append}
+use lib.Seq.{take-all}
 use Rattle.text.proofs.TextLaws.{one-by-one}
 use Rattle.sheet.specs.Index.{table}
-use Rattle.sheet.specs.Record.{byte, fourAt, transitionFrom, transitionIn, noTransition}
-use Rattle.sheet.specs.Write.{fourBytes, transitionBytes}
+use Rattle.sheet.specs.Record.{byte, transitionFrom, transitionIn, noTransition}
+use Rattle.sheet.specs.Write.{fourBytes, middleBytes, transitionBytes}
 use Rattle.sheet.specs.Parts.{partsSize, partsBytes, partsIn, partsFrom}
 use Rattle.sheet.specs.RoundTrip.{Shaped}
 use Rattle.sheet.specs.declared.Sheet.{Sheet}
-use Rattle.sheet.proofs.IndexLaws.{length-table, table-at, table-same}
-use Rattle.sheet.proofs.Pieces.{At, at-whole, at-as, at-first, at-next, cutAt, cut-then, cut-whole, read-back}
-use Rattle.sheet.proofs.Elements.{byte-read, four-read, transition-read, bytes-read, four-again, transitions-again, bytes-again}
+use Rattle.sheet.proofs.IndexLaws.{table-same}
+use Rattle.sheet.proofs.Pieces.{At, at-whole, at-as, at-first, at-next, cut-then, cut-whole, all-back}
+use Rattle.sheet.proofs.Elements.{byte-read, four-read, transition-read, bytes-back, four-again, transitions-again, bytes-again}
 use Rattle.sheet.proofs.WriteLaws.{transition-length, transitions-length}
 
 -- the parts in three pieces
 abbrev pub partsPieces : Sheet → List (List ℕ)
 partsPieces s =
     ((s .sites ∷ s .counts) ++ s .marks)
-    ∷ (fourBytes (s .first) ++ (s .moves % 256 ∷ []))
+    ∷ middleBytes (s .first) (s .moves % 256)
     ∷ flatMap transitionBytes (take 64 (s .transitions))
     ∷ []
 
@@ -35,7 +35,7 @@ module _ (s : Sheet) (shaped : Shaped s) where
       simp (append-nil, all)
 
   pub parts-length : length (partsBytes s) ≡ partsSize
-  unfolding partsBytes fourBytes
+  unfolding partsBytes middleBytes fourBytes
   parts-length = simp (length-append, shaped .counts, shaped .marks, transitions-length, shaped .transitions)
 
 -- ---- parts put are read again
@@ -45,7 +45,7 @@ module _ (s : Sheet) (shaped : Shaped s) where
   front = (s .sites ∷ s .counts) ++ s .marks
 
   abbrev middle : List ℕ
-  middle = fourBytes (s .first) ++ (s .moves % 256 ∷ [])
+  middle = middleBytes (s .first) (s .moves % 256)
 
   abbrev moves : List ℕ
   moves = flatMap transitionBytes (s .transitions)
@@ -64,36 +64,28 @@ module _ (s : Sheet) (shaped : Shaped s) where
   marks-at = at-as (omega (arith, shaped .counts)) (at-next (s .sites ∷ s .counts) (s .marks) (at-first front (middle ++ moves) all-at))
 
   moves-at : At (partsBytes s) 42 moves
-  unfolding fourBytes
+  unfolding middleBytes fourBytes
   moves-at = at-next middle moves rest-at
 
   counts-back : table (λ (i : ℕ). byte (partsBytes s) (1 + i)) 4 ≡ s .counts
-  counts-back =
-      ext-getD 0 (table (λ (i : ℕ). byte (partsBytes s) (1 + i)) 4) (s .counts) (length-table _ 4 ∙ sym (shaped .counts))
-      (λ i h. table-at (λ (j : ℕ). byte (partsBytes s) (1 + j)) 4 i 0 (omega (arith, length-table (λ (j : ℕ). byte (partsBytes s) (1 + j)) 4))
-      ∙ bytes-read (s .counts) (at-next (s .sites ∷ []) (s .counts) counts-at) i (omega (arith, length-table (λ (j : ℕ). byte (partsBytes s) (1 + j)) 4, shaped .counts)))
+  counts-back = bytes-back (s .counts) 4 (shaped .counts) (at-next (s .sites ∷ []) (s .counts) counts-at)
 
   marks-back : table (λ (k : ℕ). byte (partsBytes s) (5 + k)) 32 ≡ s .marks
-  marks-back =
-      ext-getD 0 (table (λ (k : ℕ). byte (partsBytes s) (5 + k)) 32) (s .marks) (length-table _ 32 ∙ sym (shaped .marks))
-      (λ k h. table-at (λ (j : ℕ). byte (partsBytes s) (5 + j)) 32 k 0 (omega (arith, length-table (λ (j : ℕ). byte (partsBytes s) (5 + j)) 32))
-      ∙ bytes-read (s .marks) marks-at k (omega (arith, length-table (λ (j : ℕ). byte (partsBytes s) (5 + j)) 32, shaped .marks)))
+  marks-back = bytes-back (s .marks) 32 (shaped .marks) marks-at
 
   transitions-back : table (transitionIn (partsBytes s) 42 64) 64 ≡ s .transitions
   unfolding transitionIn
   transitions-back =
-      ext-getD noTransition (table (transitionIn (partsBytes s) 42 64) 64) (s .transitions) (length-table _ 64 ∙ sym (shaped .transitions))
-      (λ k h. let b : k < 64 = omega (arith, length-table (transitionIn (partsBytes s) 42 64) 64) in
-      table-at (transitionIn (partsBytes s) 42 64) 64 k noTransition b
-      ∙ simp (lt-ltb k 64 b) (read-back noTransition 12 transitionBytes transitionFrom transition-length {l = partsBytes s} {at = 42} transition-read (s .transitions) moves-at k (omega (arith, shaped .transitions))))
+      table-same (transitionIn (partsBytes s) 42 64) (λ (k : ℕ). transitionFrom (partsBytes s) (42 + 12 * k)) 64 (λ k h. simp (lt-ltb k 64 h))
+      ∙ all-back noTransition 12 transitionBytes transitionFrom transition-length {l = partsBytes s} {at = 42} transition-read (s .transitions) 64 (shaped .transitions) moves-at
 
   moves-back : byte (partsBytes s) 41 ≡ s .moves % 256
-  unfolding fourBytes
+  unfolding middleBytes fourBytes
   moves-back = byte-read (s .moves % 256) 41 (at-next (fourBytes (s .first)) (s .moves % 256 ∷ []) (at-first middle moves rest-at))
 
   -- a number of transitions that is too large for its byte is the one thing that is not read again
   pub parts-back : s .moves < 256 → partsFrom (partsBytes s) ≡ s
-  unfolding partsFrom partsIn
+  unfolding partsFrom partsIn middleBytes
   parts-back h =
       simp (eq-eqb (length (partsBytes s)) partsSize (parts-length s shaped))
       (λ i. record {
@@ -109,7 +101,7 @@ module _ (s : Sheet) (shaped : Shaped s) where
 
 module _ (l : List ℕ) (small : (k : ℕ) → byte l k < 256) (long : length l ≡ partsSize) where
   pub parts-again : partsBytes (partsFrom l) ≡ l
-  unfolding partsFrom partsIn partsBytes transitionIn
+  unfolding partsFrom partsIn partsBytes middleBytes transitionIn
   parts-again =
       let count : byte l 41 % 256 ≡ byte l 41 = omega (arith, small 41) in
       simp (eq-eqb (length l) partsSize long)

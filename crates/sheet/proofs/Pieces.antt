@@ -7,11 +7,11 @@ use mathlib.Core.Path.{_≡_, refl, sym, ap, ap₂, subst, _∙_}
 use native.Mathlib.Nat.{add-zero, mul-zero, mul-suc}
 use native.Mathlib.Omega.{arith}
 use lib.ListN.{length, getD, take, drop, length-append, List·getD-append}
-use lib.Seq.{getD-append-add, length-take-le, take-add, drop-drop, take-all}
+use lib.Seq.{getD-append-add, length-take-le, take-add, drop-drop, take-all, ext-getD}
 use Rattle.text.proofs.Putting.{flat-length}
 use Rattle.sheet.specs.Index.{sumBelow, table}
 use Rattle.sheet.specs.Record.{byte}
-use Rattle.sheet.proofs.IndexLaws.{length-table}
+use Rattle.sheet.proofs.IndexLaws.{length-table, table-at}
 
 -- ---- a part at its place
 
@@ -120,6 +120,14 @@ module _ {A : Type 0} (none : A) (w : ℕ) (bytes : A → List ℕ) (read : List
       let before : length (flatMap bytes (take k xs)) ≡ w * k =
       flat-length bytes w wide (take k xs) ∙ ap (λ (n : ℕ). w * n) (length-take-le k xs (omega arith)) in
       one (getD xs k none) (at + w * k) (at-as (ap (λ (n : ℕ). at + n) before) (piece-at bytes none xs at k p h))
+
+  -- all of them, where so many are read
+  pub all-back : {l : List ℕ} {at : ℕ} → ((x : A) (to : ℕ) → At l to (bytes x) → read l to ≡ x)
+      → (xs : List A) (n : ℕ) → length xs ≡ n → At l at (flatMap bytes xs) → table (λ (k : ℕ). read l (at + w * k)) n ≡ xs
+  all-back {l} {at} one xs n e p =
+      let f : ℕ → A = λ k. read l (at + w * k) in
+      ext-getD none (table f n) xs (length-table f n ∙ sym e)
+      (λ k h. table-at f n k none (omega (arith, length-table f n)) ∙ read-back {l = l} {at = at} one xs p k (omega (arith, length-table f n)))
 
   -- elements read one after another are written as the same bytes
   pub written-again : (l : List ℕ) (at : ℕ) → ((to : ℕ) → to + w ≤ length l → bytes (read l to) ≡ cutAt l to w)

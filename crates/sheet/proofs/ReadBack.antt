@@ -7,21 +7,21 @@ use mathlib.Core.Path.{_≡_, refl, sym, ap, ap₂, subst, _∙_}
 use native.Mathlib.Decide.{decLt}
 use native.Mathlib.Omega.{arith}
 use borrow.Author.Tests.{eq-eqb, ne-eqb, lt-ltb, le-ltb, le-leb, lt-leb}
-use lib.Dec.{eqb, leb, ltb}
-use lib.ListN.{length, getD, take, drop, length-append}
+use lib.Dec.{ltb}
+use lib.ListN.{length, getD, take, drop}
 use lib.Seq.{ext-getD, getD-take, getD-drop, length-take-le}
 use Rattle.sheet.specs.Index.{someBelow, table}
 use Rattle.sheet.specs.Record.{byte, sizeOf, fourAt, sitesOf, stateCount, stateCounts, statesBefore, markAt, firstAt, movesAt, lengthFor, markRead, movesOf, transitionFrom, transitionIn, transitionOf, partsBy, partsOf, noTransition, moveOf}
-use Rattle.sheet.specs.Grounds.{outside, misframed, misversioned, miscountedAt, miscounted, mismeasuredBy, mismeasured, frameGround, partsGround, sheetGround, sheetOf}
-use Rattle.sheet.specs.Write.{fourBytes, transitionBytes, siteMarks, marksFor, bodyOf, recordOf, wrongCount, wrongCounts, filled, strayMove, wrongMoves, strayMark, writeGround}
-use Rattle.sheet.specs.RoundTrip.{Shaped, Blank}
-use Rattle.sheet.specs.declared.Transition.{Transition}
+use Rattle.sheet.specs.Grounds.{outside, misframed, misversioned, miscountedAt, miscounted, mismeasuredBy, mismeasured, frameGround, partsGround, sheetGround}
+use Rattle.sheet.specs.Write.{fourBytes, middleBytes, transitionBytes, siteMarks, marksFor, bodyOf, recordOf, wrongCount, wrongCounts, filled, strayMove, wrongMoves, strayMark, strayMarks, writeGround}
+use Rattle.sheet.specs.Fine.{Blank}
+use Rattle.sheet.specs.RoundTrip.{Shaped}
 use Rattle.sheet.specs.declared.Sheet.{Sheet}
 use Rattle.sheet.proofs.IndexLaws.{none-found, some-fewer, length-table, table-at, table-take}
 use Rattle.sheet.proofs.FineLaws.{among}
 use Rattle.sheet.proofs.Pieces.{At, at-whole, at-as, at-first, at-next, piece-at, upTo, read-back}
 use Rattle.sheet.proofs.Elements.{byte-read, four-read, transition-read, bytes-read}
-use Rattle.sheet.proofs.WriteLaws.{sites-among, count-there, count-few, moves-few, filled-none, pieces, pieces-are, transition-length, site-length, marks-before, marks-length, record-length}
+use Rattle.sheet.proofs.WriteLaws.{sites-among, count-few, moves-few, filled-none, pieces, pieces-are, transition-length, site-length, marks-before, marks-length, record-length}
 
 -- ---- the frame
 
@@ -68,7 +68,7 @@ module _ (s : Sheet) (shaped : Shaped s) (four : s .sites ≤ 4) where
   headPiece = length (bodyOf s) / 256 ∷ length (bodyOf s) % 256 ∷ 1 ∷ s .sites ∷ take (s .sites) (s .counts)
 
   abbrev lastPieces : List ℕ
-  lastPieces = flatten ((fourBytes (s .first) ++ (s .moves ∷ [])) ∷ flatMap transitionBytes (take (s .moves) (s .transitions)) ∷ [])
+  lastPieces = flatten (middleBytes (s .first) (s .moves) ∷ flatMap transitionBytes (take (s .moves) (s .transitions)) ∷ [])
 
   counts-at : At (recordOf s) 4 (take (s .sites) (s .counts))
   unfolding flatten
@@ -94,22 +94,23 @@ module _ (s : Sheet) (shaped : Shaped s) (four : s .sites ≤ 4) where
         at-as (omega (arith, marks-length (s .counts) (s .marks) few (shaped .marks)))
         (at-next (marksFor (s .counts) (s .marks)) lastPieces rest-at)
 
-    middle-at : At (recordOf s) (firstAt (s .sites) (s .counts)) (fourBytes (s .first) ++ (s .moves ∷ []))
+    middle-at : At (recordOf s) (firstAt (s .sites) (s .counts)) (middleBytes (s .first) (s .moves))
     unfolding flatten
-    middle-at = at-first (fourBytes (s .first) ++ (s .moves ∷ [])) (flatMap transitionBytes (take (s .moves) (s .transitions)) ++ []) last-at
+    middle-at = at-first (middleBytes (s .first) (s .moves)) (flatMap transitionBytes (take (s .moves) (s .transitions)) ++ []) last-at
 
     first-read : fourAt (recordOf s) (firstAt (s .sites) (s .counts)) ≡ s .first
+    unfolding middleBytes
     first-read = four-read (s .first) (firstAt (s .sites) (s .counts)) (at-first (fourBytes (s .first)) (s .moves ∷ []) middle-at)
 
     moves-read : movesOf (recordOf s) (s .sites) (s .counts) ≡ s .moves
-    unfolding fourBytes
+    unfolding middleBytes fourBytes
     moves-read = byte-read (s .moves) (movesAt (s .sites) (s .counts)) (at-next (fourBytes (s .first)) (s .moves ∷ []) middle-at)
 
     moves-at : At (recordOf s) (movesAt (s .sites) (s .counts) + 1) (flatMap transitionBytes (take (s .moves) (s .transitions)))
-    unfolding flatten fourBytes
+    unfolding flatten middleBytes fourBytes
     moves-at =
         at-first (flatMap transitionBytes (take (s .moves) (s .transitions))) []
-        (at-as (omega arith) (at-next (fourBytes (s .first) ++ (s .moves ∷ [])) (flatMap transitionBytes (take (s .moves) (s .transitions)) ++ []) last-at))
+        (at-as (omega arith) (at-next (middleBytes (s .first) (s .moves)) (flatMap transitionBytes (take (s .moves) (s .transitions)) ++ []) last-at))
 
     -- the mark of a state that is there
     mark-read : (k : ℕ) → k < 32 → k % 8 < getD (s .counts) (k / 8) 0
@@ -210,7 +211,7 @@ module _ (s : Sheet) (shaped : Shaped s) (blank : Blank s) where
           (λ i h. simp (lt-ltb i (s .sites) h) (ap (outside 1 8) (count-read s shaped four i h)))
           (λ i h b. simp (le-ltb i (s .sites) h, eq-eqb (getD (s .counts) i 0) 0 (blank .absent i h))))
 
-  -- nothing stands beyond the transitions
+  -- nothing stands beyond the transitions, and no state that is not there has a mark
   none-beyond : someBelow (strayMove s) 64 ≡ false
   unfolding strayMove
   none-beyond = none-found (strayMove s) 64 (λ k b. go k (decLt k (s .moves)))
@@ -219,9 +220,9 @@ module _ (s : Sheet) (shaped : Shaped s) (blank : Blank s) where
       go k (yes h) = simp (lt-leb (s .moves) k h)
       go k (no h) = simp (le-leb (s .moves) k (omega arith)) (ap filled (blank .rest k (omega arith)) ∙ filled-none)
 
-  none-stray : someBelow (strayMark (s .counts) (s .marks)) 32 ≡ false
+  no-strays : strayMarks s ≡ false
   unfolding strayMark
-  none-stray = none-found (strayMark (s .counts) (s .marks)) 32 (λ k b. go k (decLt (k % 8) (getD (s .counts) (k / 8) 0)))
+  no-strays = none-found (strayMark (s .counts) (s .marks)) 32 (λ k b. go k (decLt (k % 8) (getD (s .counts) (k / 8) 0)))
     where
       go : (k : ℕ) → Dec (k % 8 < getD (s .counts) (k / 8) 0) → strayMark (s .counts) (s .marks) k ≡ false
       go k (yes h) = simp (lt-leb (getD (s .counts) (k / 8) 0) (k % 8) h)
@@ -234,7 +235,7 @@ module _ (s : Sheet) (shaped : Shaped s) (blank : Blank s) where
     few : (i : ℕ) → getD (s .counts) i 0 ≤ 8
     few = count-few s counted shaped
 
-    -- so are the transitions
+    -- the transitions are too many, or the length is wrong, in the parts exactly where they are in the record
     moves-same : mismeasured (recordOf s) ≡ wrongMoves s
     unfolding mismeasuredBy wrongMoves
     moves-same = ap₂ (mismeasuredBy (recordOf s)) (sites-read s) (counts-read s shaped blank four) ∙ go (decLt 64 (s .moves))
@@ -260,5 +261,5 @@ module _ (s : Sheet) (shaped : Shaped s) (blank : Blank s) where
       go true e b f = simp (framing s, versioning s, counts-same, e)
       go false e true f = simp (framing s, versioning s, counts-same, e, moves-same e, f)
       go false e false f =
-          simp (framing s, versioning s, counts-same, e, moves-same e, f, none-stray)
+          simp (framing s, versioning s, counts-same, e, moves-same e, f, no-strays)
           (ap partsGround (parts-read s shaped blank (sites-among s e .high) (count-few s e shaped) (moves-few s f)))

@@ -1,34 +1,34 @@
 -- Reading and writing belong together: `round-trip` shows what specs/RoundTrip.antt says.
 -- The record of the parts that the reader found is the bytes that it read, piece by piece.
 -- Assumes nothing.
-use Prim.Native.Nat.{ℕ, _+_, _*_, _/_, _%_, _≤_, _<_}
-use mathlib.Core.Bool.{true, not}
+use Prim.Native.Nat.{ℕ, _+_, _-_, _*_, _/_, _%_, _≤_, _<_}
+use mathlib.Core.Bool.{cond}
 use mathlib.Core.List.{List, [], _∷_, _++_, flatMap, flatten, append-nil}
 use mathlib.Core.Path.{_≡_, refl, sym, ap, ap₂, subst, _∙_}
 use native.Mathlib.Decide.{ℕ-discrete, decLt}
 use native.Mathlib.Nat.{zero-add}
 use native.Mathlib.Omega.{arith}
 use borrow.Author.Tests.{eqb-true, eq-eqb, ne-eqb, not-false, lt-ltb}
-use lib.Dec.{eqb}
-use lib.ListN.{length, getD, take, drop, length-drop}
-use lib.Seq.{ext-getD, getD-take, getD-drop, length-take-le, take-at}
+use lib.Dec.{eqb, leb}
+use lib.ListN.{length, getD, take, drop}
+use lib.Seq.{take-at}
 use Rattle.text.proofs.TextLaws.{one-by-one}
 use Rattle.sheet.specs.Index.{table}
-use Rattle.sheet.specs.Record.{byte, sizeOf, fourAt, sitesOf, stateCount, stateCounts, statesBefore, markAt, firstAt, movesAt, markRead, movesOf, transitionFrom, transitionIn, transitionOf, partsBy, partsOf, noSheet}
+use Rattle.sheet.specs.Record.{byte, sizeOf, sitesOf, stateCount, stateCounts, statesBefore, firstAt, movesAt, markRead, movesOf, transitionFrom, transitionIn, transitionOf, partsBy, partsOf, noSheet}
 use Rattle.sheet.specs.Grounds.{outside, misversioned, sheetGround, sheetOf}
-use Rattle.sheet.specs.Write.{fourBytes, transitionBytes, siteMarks, marksFor, bodyOf, recordOf, wrongCounts, writeGround, writeOf}
+use Rattle.sheet.specs.Write.{middleBytes, transitionBytes, siteMarks, marksFor, bodyOf, recordOf, wrongCounts, writeGround, refusalFor, writeOf}
 use Rattle.sheet.specs.Parts.{partsSize, partsIn, partsFrom}
-use Rattle.sheet.specs.RoundTrip.{Shaped, Blank, leftBy, RoundTrip}
-use Rattle.sheet.specs.declared.Transition.{Transition}
+use Rattle.sheet.specs.RoundTrip.{Shaped, recordWritten, RoundTrip}
+use Rattle.sheet.specs.Fine.{Blank}
 use Rattle.sheet.specs.declared.Sheet.{Sheet}
 use Rattle.sheet.specs.declared.Written.{Written}
-use Rattle.sheet.proofs.IndexLaws.{length-table, table-at, table-same, table-take, sum-within}
+use Rattle.sheet.proofs.IndexLaws.{length-table, table-same, table-take, table-drop, sum-within}
 use Rattle.sheet.proofs.GroundLaws.{Framed, frame-none, passes, sheet-is}
 use Rattle.sheet.proofs.FineLaws.{framed-size, whole, sites-few, count-few, moves-few}
 use Rattle.sheet.proofs.CycleLaws.{accepted-fine}
-use Rattle.sheet.proofs.Pieces.{upTo, cutAt, cut-then, cut-whole, flat-cut}
+use Rattle.sheet.proofs.Pieces.{cutAt, cut-then, cut-whole, flat-cut}
 use Rattle.sheet.proofs.Elements.{cut-four, four-again, transitions-again, bytes-again}
-use Rattle.sheet.proofs.WriteLaws.{formed, blank, sized, pieces, pieces-are, record-length, refused-parts, refused-room, written}
+use Rattle.sheet.proofs.WriteLaws.{formed, blank, sized, pieces-are, record-length, refusal-is, refused-parts, refused-room, written}
 use Rattle.sheet.proofs.ReadBack.{record-long, same-ground, parts-read}
 
 -- ---- the parts of a record
@@ -83,30 +83,26 @@ module _ (l : List ℕ) (f : Framed l) where
   unfolding siteMarks partsBy markRead
   site-again i h =
       let marks = markRead l (sitesOf l) counts in
+      let states = getD counts i 0 in
       let few = count-few l f i in
       let at = marksStart + statesBefore counts i in
-      let here : length (take (getD counts i 0) (drop (8 * i) (table marks 32))) ≡ getD counts i 0 =
-      length-take-le (getD counts i 0) (drop (8 * i) (table marks 32)) (omega (arith, length-drop (8 * i) (table marks 32), length-table marks 32)) in
-      let there : length (cutAt l at (getD counts i 0)) ≡ getD counts i 0 =
-      length-take-le (getD counts i 0) (drop at l) (omega (arith, length-drop at l, whole l f, states-fit i h)) in
-      ext-getD 0 (take (getD counts i 0) (drop (8 * i) (table marks 32))) (cutAt l at (getD counts i 0)) (here ∙ sym there)
+      ap (λ (n : ℕ). take states (drop (8 * i) (table marks n))) (let e : 32 ≡ 8 * i + (32 - 8 * i) = omega arith in e)
+      ∙ ap (take states) (table-drop marks (8 * i) (32 - 8 * i))
+      ∙ table-take (λ (q : ℕ). marks (8 * i + q)) (32 - 8 * i) states (omega (arith, few))
+      ∙ table-same (λ (q : ℕ). marks (8 * i + q)) (λ (q : ℕ). byte l (at + q)) states
       (λ q b.
-      let in-site : q < getD counts i 0 = omega (arith, here) in
       let place : (8 * i + q) / 8 ≡ i = omega (arith, few) in
       let state : (8 * i + q) % 8 ≡ q = omega (arith, few) in
-      getD-take (getD counts i 0) (drop (8 * i) (table marks 32)) q 0 in-site
-      ∙ getD-drop (8 * i) (table marks 32) q 0
-      ∙ table-at marks 32 (8 * i + q) 0 (omega (arith, few))
-      ∙ (let e : marks (8 * i + q) ≡ byte l (at + q) = simp (place, state, lt-ltb q (getD counts i 0) in-site) in e)
-      ∙ sym (getD-take (getD counts i 0) (drop at l) q 0 in-site ∙ getD-drop at l q 0))
+      simp (place, state, lt-ltb q (getD counts i 0) b))
+      ∙ bytes-again l at states (omega (arith, whole l f, states-fit i h))
 
   marks-again : marksFor counts (sheet .marks) ≡ cutAt l marksStart (statesBefore counts 4)
   unfolding marksFor statesBefore
   marks-again = flat-cut l marksStart (siteMarks counts (sheet .marks)) (λ (j : ℕ). getD counts j 0) 4 site-again
 
   module _ (small : (k : ℕ) → byte l k < 256) where
-    middle-again : fourBytes (sheet .first) ++ (sheet .moves ∷ []) ≡ cutAt l (firstAt (sitesOf l) counts) 5
-    unfolding partsBy
+    middle-again : middleBytes (sheet .first) (sheet .moves) ≡ cutAt l (firstAt (sitesOf l) counts) 5
+    unfolding middleBytes partsBy
     middle-again =
         let at = firstAt (sitesOf l) counts in
         ap₂ (λ (x y : List ℕ). x ++ y) (four-again l small at (omega (arith, whole l f))) (sym (one-by-one 1 (at + 4) l (omega (arith, whole l f))))
@@ -157,10 +153,8 @@ module _ (l : List ℕ) (small : (k : ℕ) → byte l k < 256) (accepted : sheet
 
   no-ground : writeGround (sheetOf l) ≡ 0
   no-ground =
-      let fine = accepted-fine l small accepted in
-      let zeros : Blank (partsOf l) = record { absent = fine .absent; unmarked = fine .unmarked; rest = fine .rest } in
       ap writeGround (accepted-sheet l accepted)
-      ∙ sym (same-ground (partsOf l) (shaped-parts l) zeros)
+      ∙ sym (same-ground (partsOf l) (shaped-parts l) (accepted-fine l small accepted .blank))
       ∙ ap sheetGround (record-again l (accepted-frame l accepted) small)
       ∙ accepted
 
@@ -190,7 +184,7 @@ module _ (s : Sheet) (room : List ℕ) (shaped : Shaped s) (e : writeOf s room .
   zeros : Blank s
   zeros = blank s shaped (formed s (wrote s room e .unrefused))
 
-  left : leftBy s room ≡ recordOf s
+  left : recordWritten s room ≡ recordOf s
   left =
       let w = wrote s room e in
       ap (λ (x : Written × List ℕ). take (x .0 .length) (x .1)) (written s room (w .unrefused) (w .fits))
@@ -216,7 +210,7 @@ told-shape l = go (ℕ-discrete (length l) partsSize)
     go (yes e) = simp (eq-eqb (length l) partsSize e) (record { counts = length-table _ 4; marks = length-table _ 32; transitions = length-table _ 64 })
     go (no d) = simp (ne-eqb (length l) partsSize d) (record { counts = refl; marks = refl; transitions = refl })
 
--- no sheet is not written
+-- the writer refuses parts that are all zero
 pub untold : (room : List ℕ) → writeOf noSheet room .0 .refusal ≡ 0 → ⊥
 unfolding writeGround wrongCounts outside noSheet
 untold room e = let none : _≡_ {A = ℕ} 23 0 = wrote noSheet room e .unrefused in omega (arith, none)
@@ -229,6 +223,11 @@ record-size s room e =
     let is = written s room (w .unrefused) (w .fits) in
     ap (λ (x : Written × List ℕ). 2 + sizeOf (x .1)) is ∙ (let long : 2 + (length (bodyOf s) / 256 * 256 + length (bodyOf s) % 256) ≡ length (recordOf s) = omega arith in long) ∙ sym (ap (λ (x : Written × List ℕ). x .0 .length) is)
 
+refusal-by-ground : (s : Sheet) (room : List ℕ)
+    → writeOf s room .0 .refusal ≡ cond (eqb (writeGround s) 0) (cond (leb (length (recordOf s)) (length room)) 0 32) (writeGround s)
+unfolding refusalFor
+refusal-by-ground s room = refusal-is s room
+
 pub round-trip : RoundTrip
 round-trip =
     record {
@@ -239,10 +238,7 @@ round-trip =
       same = same-refusal;
     }
   where
-    same-refusal : (s : Sheet) (room : List ℕ) → Shaped s → Blank s → length (recordOf s) ≤ length room
-        → writeOf s room .0 .refusal ≡ sheetGround (recordOf s)
-    same-refusal s room shaped none h = go (ℕ-discrete (writeGround s) 0)
-      where
-        go : Dec (writeGround s ≡ 0) → writeOf s room .0 .refusal ≡ sheetGround (recordOf s)
-        go (yes z) = ap (λ (w : Written × List ℕ). w .0 .refusal) (written s room z h) ∙ sym (same-ground s shaped none ∙ z)
-        go (no d) = ap (λ (w : Written × List ℕ). w .0 .refusal) (refused-parts s room d) ∙ sym (same-ground s shaped none)
+    same-refusal : (s : Sheet) (room : List ℕ) → Shaped s → Blank s
+        → writeOf s room .0 .refusal
+        ≡ cond (eqb (sheetGround (recordOf s)) 0) (cond (leb (length (recordOf s)) (length room)) 0 32) (sheetGround (recordOf s))
+    same-refusal s room shaped none = refusal-by-ground s room ∙ sym (ap (λ (g : ℕ). cond (eqb g 0) (cond (leb (length (recordOf s)) (length room)) 0 32) g) (same-ground s shaped none))

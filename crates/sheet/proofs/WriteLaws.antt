@@ -1,24 +1,27 @@
 -- What the writer's grounds say of parts that pass them, and how long the pieces of their record are.
 -- Assumes nothing.
-use Prim.Native.Nat.{ℕ, _+_, _-_, _*_, _/_, _%_, _≤_, _<_, _^_}
-use mathlib.Core.Bool.{Bool, true, false, cond, not, _&&_, _||_}
+use Prim.Native.Nat.{ℕ, _+_, _-_, _*_, _/_, _%_, _≤_, _<_}
+use mathlib.Core.Bool.{false, not}
 use mathlib.Core.List.{List, [], _∷_, _++_, flatMap, flatten, append-nil}
 use mathlib.Core.Path.{_≡_, refl, sym, ap, subst, _∙_}
 use native.Mathlib.Decide.{decLt, ℕ-discrete}
 use native.Mathlib.Omega.{arith}
 use borrow.Author.Tests.{eq-eqb, ne-eqb, eqb-true, lt-ltb, le-ltb, ltb-false, le-leb, lt-leb, not-false}
-use lib.Dec.{eqb, leb, ltb}
+use lib.Dec.{eqb, ltb}
 use lib.ListN.{length, getD, take, drop, length-append, length-drop, List·getD-eq-default}
 use lib.Seq.{length-take-le}
-use Rattle.text.proofs.Putting.{flat-length}
-use Rattle.sheet.specs.Index.{someBelow, sumBelow, table}
-use Rattle.sheet.specs.Record.{statesBefore, moveOf, noTransition}
+use Rattle.text.specs.Text.{Put}
+use Rattle.text.proofs.TextLaws.{put-as}
+use Rattle.text.proofs.Putting.{Going, begin, next, ended, flat-length}
+use Rattle.sheet.specs.Index.{sumBelow}
+use Rattle.sheet.specs.Record.{statesBefore, lengthFor, moveOf, noTransition}
 use Rattle.sheet.specs.Grounds.{outside, partsGround}
-use Rattle.sheet.specs.Write.{fourBytes, transitionBytes, siteMarks, marksFor, bodyOf, recordOf, wrongCount, wrongCounts, filled, strayMove, wrongMoves, strayMark, writeGround, refusalFor, writeOf}
-use Rattle.sheet.specs.RoundTrip.{Shaped, Blank}
+use Rattle.sheet.specs.Write.{fourBytes, middleBytes, transitionBytes, siteMarks, marksFor, bodyOf, recordOf, wrongCount, wrongCounts, filled, strayMove, wrongMoves, strayMark, strayMarks, writeGround, refusalFor, writeOf}
+use Rattle.sheet.specs.Fine.{Blank}
+use Rattle.sheet.specs.RoundTrip.{Shaped}
 use Rattle.sheet.specs.declared.Transition.{Transition}
 use Rattle.sheet.specs.declared.Sheet.{Sheet}
-use Rattle.sheet.proofs.IndexLaws.{or-neither, none-at, none-found, length-table}
+use Rattle.sheet.proofs.IndexLaws.{or-neither, none-at}
 use Rattle.sheet.proofs.GroundLaws.{past}
 use Rattle.sheet.proofs.FineLaws.{Among, among}
 use Rattle.sheet.proofs.Pieces.{upTo, flat-sum}
@@ -29,7 +32,7 @@ use Rattle.sheet.proofs.Pieces.{upTo, flat-sum}
 pub record Formed (s : Sheet) : Type 0 where
   pub counted : wrongCounts s ≡ false
   pub moved : wrongMoves s ≡ false
-  pub marked : someBelow (strayMark (s .counts) (s .marks)) 32 ≡ false
+  pub marked : strayMarks s ≡ false
   pub parts : partsGround s ≡ 0
 
 pub formed : (s : Sheet) → writeGround s ≡ 0 → Formed s
@@ -37,10 +40,10 @@ unfolding writeGround
 formed s e =
     let a = past (wrongCounts s) 23 _ 0 (λ z. absurd (omega arith)) e in
     let b = past (wrongMoves s) 24 _ 0 (λ z. absurd (omega arith)) (a .rest) in
-    let c = past (someBelow (strayMark (s .counts) (s .marks)) 32) 25 (partsGround s) 0 (λ z. absurd (omega arith)) (b .rest) in
+    let c = past (strayMarks s) 25 (partsGround s) 0 (λ z. absurd (omega arith)) (b .rest) in
     record { counted = a .absent; moved = b .absent; marked = c .absent; parts = c .rest }
 
--- what does not hold of a count
+-- what is not other than 0 is 0
 count-zero : (count : ℕ) → not (eqb count 0) ≡ false → count ≡ 0
 count-zero count e = eqb-true count 0 (not-false _ e)
 
@@ -81,7 +84,7 @@ pub moves-few : (s : Sheet) → wrongMoves s ≡ false → s .moves ≤ 64
 unfolding wrongMoves
 moves-few s e = ltb-false _ _ (or-neither (ltb 64 (s .moves)) _ e .0)
 
--- a transition without a field is none
+-- a transition whose fields are all 0 is none
 unfilled : (t : Transition) → filled t ≡ false → t ≡ noTransition
 unfolding filled
 unfilled t e =
@@ -100,13 +103,13 @@ filled-none = refl
 
 -- parts that pass have zeros where a sheet has nothing
 module _ (s : Sheet) (shaped : Shaped s) (f : Formed s) where
-  none-stray : (k : ℕ) → k < 32 → getD (s .counts) (k / 8) 0 ≤ k % 8 → getD (s .marks) k 0 ≡ 0
+  mark-zero : (k : ℕ) → k < 32 → getD (s .counts) (k / 8) 0 ≤ k % 8 → getD (s .marks) k 0 ≡ 0
   unfolding strayMark
-  none-stray k b h = count-zero _ (sym (simp (le-leb _ _ h)) ∙ none-at (strayMark (s .counts) (s .marks)) 32 k (f .marked) b)
+  mark-zero k b h = count-zero _ (sym (simp (le-leb _ _ h)) ∙ none-at (strayMark (s .counts) (s .marks)) 32 k (f .marked) b)
 
-  none-more : (k : ℕ) → k < 64 → s .moves ≤ k → moveOf s k ≡ noTransition
+  move-zero : (k : ℕ) → k < 64 → s .moves ≤ k → moveOf s k ≡ noTransition
   unfolding strayMove wrongMoves
-  none-more k b h =
+  move-zero k b h =
       unfilled (moveOf s k) (sym (simp (le-leb (s .moves) k h)) ∙ none-at (strayMove s) 64 k (or-neither (ltb 64 (s .moves)) _ (f .moved) .1) b)
 
   pub blank : Blank s
@@ -118,11 +121,11 @@ module _ (s : Sheet) (shaped : Shaped s) (f : Formed s) where
       }
     where
       mark : (k : ℕ) → getD (s .counts) (k / 8) 0 ≤ k % 8 → Dec (k < 32) → getD (s .marks) k 0 ≡ 0
-      mark k h (yes b) = none-stray k b h
+      mark k h (yes b) = mark-zero k b h
       mark k h (no b) = List·getD-eq-default (s .marks) 0 {n = k} (omega (arith, shaped .marks))
 
       move : (k : ℕ) → s .moves ≤ k → Dec (k < 64) → moveOf s k ≡ noTransition
-      move k h (yes b) = none-more k b h
+      move k h (yes b) = move-zero k b h
       move k h (no b) = List·getD-eq-default (s .transitions) noTransition {n = k} (omega (arith, shaped .transitions))
 
 -- ---- lengths
@@ -155,8 +158,8 @@ states-few counts few = omega (arith, few 0, few 1, few 2, few 3)
 
 -- the length of the record, where the counts and the transitions are few enough
 pub record-length : (s : Sheet) → Shaped s → s .sites ≤ 4 → ((i : ℕ) → getD (s .counts) i 0 ≤ 8) → s .moves ≤ 64
-    → length (recordOf s) ≡ 4 + s .sites + statesBefore (s .counts) 4 + 5 + 12 * s .moves
-unfolding recordOf bodyOf fourBytes
+    → length (recordOf s) ≡ 2 + lengthFor (s .sites) (s .counts) (s .moves)
+unfolding recordOf bodyOf middleBytes fourBytes
 record-length s shaped four few most =
     let counts : length (take (s .sites) (s .counts)) ≡ s .sites = length-take-le (s .sites) (s .counts) (omega (arith, shaped .counts)) in
     let marks = marks-length (s .counts) (s .marks) few (shaped .marks) in
@@ -164,8 +167,8 @@ record-length s shaped four few most =
     transitions-length (take (s .moves) (s .transitions)) ∙ ap (λ (n : ℕ). 12 * n) (length-take-le (s .moves) (s .transitions) (omega (arith, shaped .transitions))) in
     omega (
       arith,
-      length-append (take (s .sites) (s .counts)) (marksFor (s .counts) (s .marks) ++ ((fourBytes (s .first) ++ (s .moves ∷ [])) ++ flatMap transitionBytes (take (s .moves) (s .transitions)))),
-      length-append (marksFor (s .counts) (s .marks)) ((fourBytes (s .first) ++ (s .moves ∷ [])) ++ flatMap transitionBytes (take (s .moves) (s .transitions))),
+      length-append (take (s .sites) (s .counts)) (marksFor (s .counts) (s .marks) ++ (middleBytes (s .first) (s .moves) ++ flatMap transitionBytes (take (s .moves) (s .transitions)))),
+      length-append (marksFor (s .counts) (s .marks)) (middleBytes (s .first) (s .moves) ++ flatMap transitionBytes (take (s .moves) (s .transitions))),
       counts,
       marks,
       moves,
@@ -179,7 +182,7 @@ pub record Sized (s : Sheet) : Type 0 where
   pub few : (i : ℕ) → getD (s .counts) i 0 ≤ 8
   pub most : s .moves ≤ 64
   pub states : statesBefore (s .counts) 4 ≤ 32
-  pub long : length (recordOf s) ≡ 4 + s .sites + statesBefore (s .counts) 4 + 5 + 12 * s .moves
+  pub long : length (recordOf s) ≡ 2 + lengthFor (s .sites) (s .counts) (s .moves)
 
 pub sized : (s : Sheet) → Shaped s → writeGround s ≡ 0 → Sized s
 sized s shaped e =
@@ -194,7 +197,7 @@ abbrev pub pieces : Sheet → List (List ℕ)
 pieces s =
     (length (bodyOf s) / 256 ∷ length (bodyOf s) % 256 ∷ 1 ∷ s .sites ∷ take (s .sites) (s .counts))
     ∷ marksFor (s .counts) (s .marks)
-    ∷ (fourBytes (s .first) ++ (s .moves ∷ []))
+    ∷ middleBytes (s .first) (s .moves)
     ∷ flatMap transitionBytes (take (s .moves) (s .transitions))
     ∷ []
 
@@ -209,6 +212,14 @@ module _ (s : Sheet) (room : List ℕ) where
   unfolding writeOf refusalFor
   refused-parts d = simp (ne-eqb (writeGround s) 0 d)
 
+  pub refusal-is : writeOf s room .0 .refusal ≡ refusalFor s (length room)
+  unfolding writeOf
+  refusal-is = go (ℕ-discrete (refusalFor s (length room)) 0)
+    where
+      go : Dec (refusalFor s (length room) ≡ 0) → writeOf s room .0 .refusal ≡ refusalFor s (length room)
+      go (yes e) = simp (eq-eqb (refusalFor s (length room)) 0 e) (sym e)
+      go (no d) = simp (ne-eqb (refusalFor s (length room)) 0 d)
+
   pub refused-room : writeGround s ≡ 0 → length room < length (recordOf s) → writeOf s room ≡ (record { refusal = 32; length = 0 }, room)
   unfolding writeOf refusalFor
   refused-room e h = simp (eq-eqb (writeGround s) 0 e, lt-leb (length (recordOf s)) (length room) h)
@@ -217,3 +228,21 @@ module _ (s : Sheet) (room : List ℕ) where
       → writeOf s room ≡ (record { refusal = 0; length = length (recordOf s) }, recordOf s ++ drop (length (recordOf s)) room)
   unfolding writeOf refusalFor
   written e h = simp (eq-eqb (writeGround s) 0 e, le-leb (length (recordOf s)) (length room) h)
+
+-- ---- the record, put piece by piece
+
+module _ (s : Sheet) (room : List ℕ) (size : ℕ) (is : size ≡ length (recordOf s)) (fits : size ≤ length room) where
+  -- the head is put, with the length of what follows it
+  pub headed : {last : List ℕ} {r : ℕ} → Put room 0 ((size - 2) / 256 ∷ (size - 2) % 256 ∷ 1 ∷ s .sites ∷ take (s .sites) (s .counts)) last r
+      → Going room 0 (flatten (pieces s)) (marksFor (s .counts) (s .marks) ∷ middleBytes (s .first) (s .moves) ∷ flatMap transitionBytes (take (s .moves) (s .transitions)) ∷ []) last r
+  unfolding recordOf
+  headed p =
+      let begun = begin room 0 (pieces s) (subst (λ (x : List ℕ). 0 + length x ≤ length room) (sym (pieces-are s)) (omega (arith, is, fits))) in
+      let follows : size - 2 ≡ length (bodyOf s) = omega (arith, is) in
+      next begun (put-as p (ap (λ (n : ℕ). n / 256 ∷ n % 256 ∷ 1 ∷ s .sites ∷ take (s .sites) (s .counts)) follows))
+
+  -- all is put
+  pub recorded : {last : List ℕ} {r : ℕ} → Going room 0 (flatten (pieces s)) [] last r → last ≡ recordOf s ++ drop size room
+  recorded g =
+      put-as (ended g) (pieces-are s) .bytes
+      ∙ ap (λ (k : ℕ). recordOf s ++ drop k room) (let all : 0 + length (recordOf s) ≡ size = omega (arith, is) in all)

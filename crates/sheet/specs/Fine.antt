@@ -22,6 +22,12 @@ pub record FineMove (s : Sheet) (t : Transition) : Type 0 where
   pub abort : markIn s (t .site) (t .from) ≡ 1 → markIn s (t .site) (t .to) ≡ 1
   pub commit : markIn s (t .site) (t .from) ≡ 2 → markIn s (t .site) (t .to) ≡ 2
 
+-- Zeros stand where the sheet has nothing: an absent site, a state that is not there, a place beyond the transitions.
+pub record Blank (s : Sheet) : Type 0 where
+  pub absent : (i : ℕ) → s .sites ≤ i → getD (s .counts) i 0 ≡ 0
+  pub unmarked : (k : ℕ) → getD (s .counts) (k / 8) 0 ≤ k % 8 → getD (s .marks) k 0 ≡ 0
+  pub rest : (k : ℕ) → s .moves ≤ k → moveOf s k ≡ noTransition
+
 -- A sheet: its counts, marks and messages in their ranges, and each transition fine; no message read by two sites, and no cycle.
 -- What the sheet does not have is zero.
 pub record Fine (s : Sheet) : Type 0 where
@@ -29,13 +35,11 @@ pub record Fine (s : Sheet) : Type 0 where
   pub most : s .sites ≤ 4
   pub some : (i : ℕ) → i < s .sites → 1 ≤ getD (s .counts) i 0
   pub many : (i : ℕ) → getD (s .counts) i 0 ≤ 8
-  pub absent : (i : ℕ) → s .sites ≤ i → getD (s .counts) i 0 ≡ 0
+  pub blank : Blank s
   pub marks : (k : ℕ) → getD (s .marks) k 0 < 3
-  pub unmarked : (k : ℕ) → getD (s .counts) (k / 8) 0 ≤ k % 8 → getD (s .marks) k 0 ≡ 0
   pub first : s .first < 2 ^ 32
   pub few : s .moves ≤ 64
   pub each : (k : ℕ) → k < s .moves → FineMove s (moveOf s k)
-  pub rest : (k : ℕ) → s .moves ≤ k → moveOf s k ≡ noTransition
   pub apart : (i j : ℕ) → i < s .moves → j < s .moves → (moveOf s i .site ≡ moveOf s j .site → ⊥)
       → bitAnd (moveOf s i .reads) (moveOf s j .reads) ≡ 0
   pub acyclic : Cycle s → ⊥

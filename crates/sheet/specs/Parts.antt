@@ -3,22 +3,23 @@
 -- Assumes nothing.
 use Prim.Native.Nat.{ℕ, _+_, _%_}
 use mathlib.Core.Bool.{cond}
-use mathlib.Core.List.{List, [], _∷_, _++_, flatMap}
+use mathlib.Core.List.{List, _∷_, _++_, flatMap}
 use lib.Dec.{eqb, leb}
 use lib.ListN.{length, drop}
 use Rattle.sheet.specs.Index.{table}
 use Rattle.sheet.specs.Record.{byte, fourAt, transitionIn, noSheet}
-use Rattle.sheet.specs.Write.{fourBytes, transitionBytes}
+use Rattle.sheet.specs.Write.{middleBytes, transitionBytes}
 use Rattle.sheet.specs.declared.Sheet.{Sheet}
 
 -- how many bytes they take: 1 + 4 + 32 + 4 + 1 + 64 * 12
 abbrev pub partsSize : ℕ
 partsSize = 810
 
+-- the parts one after another; of a number of transitions above 255, which no sheet that is read has, its remainder by 256
 unfoldable pub partsBytes : Sheet → List ℕ
 partsBytes s =
     ((s .sites ∷ s .counts) ++ s .marks)
-    ++ ((fourBytes (s .first) ++ (s .moves % 256 ∷ [])) ++ flatMap transitionBytes (s .transitions))
+    ++ (middleBytes (s .first) (s .moves % 256) ++ flatMap transitionBytes (s .transitions))
 
 -- what 810 bytes tell
 unfoldable pub partsIn : List ℕ → Sheet
@@ -36,6 +37,6 @@ partsIn l =
 unfoldable pub partsFrom : List ℕ → Sheet
 partsFrom l = cond (eqb (length l) partsSize) (partsIn l) noSheet
 
--- the parts in the first 810 bytes of a room that has as many, and the rest as it was
+-- the parts in the first 810 bytes of a room that has as many, and the rest as it was; a smaller room stays
 unfoldable pub partsPut : Sheet → List ℕ → List ℕ
 partsPut s room = cond (leb partsSize (length room)) (partsBytes s ++ drop partsSize room) room

@@ -86,7 +86,7 @@ transitionFrom l at =
       writes = fourAt l (at + 8);
     }
 
--- transition k of as many as `moves`, the first of which stands at `start`; none from there on
+-- transition k of as many as `moves`, the first of which stands at `start`; none from `moves` on
 unfoldable pub transitionIn : List ℕ → ℕ → ℕ → ℕ → Transition
 transitionIn l start moves k = cond (ltb k moves) (transitionFrom l (start + 12 * k)) noTransition
 

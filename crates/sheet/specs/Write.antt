@@ -1,14 +1,13 @@
 -- Writing a sheet (02, Ask 3): the record of its parts, the grounds against them, and what the writer answers and leaves in the room.
--- The parts are what the reader hands out, so any grounds that are about the parts are the reader's own.
+-- Grounds 25 to 29 are the reader's own. 23 and 24 are said of the parts here; with 23, 24 and 25 goes what stands where a sheet has nothing.
 -- Assumes nothing.
-use Prim.Native.Nat.{ℕ, _+_, _*_, _/_, _%_, _≤_}
+use Prim.Native.Nat.{ℕ, _+_, _*_, _/_, _%_}
 use mathlib.Core.Bool.{Bool, cond, not, _&&_, _||_}
 use mathlib.Core.List.{List, [], _∷_, _++_, flatMap}
-use mathlib.Core.Path.{_≡_}
 use lib.Dec.{eqb, leb, ltb}
 use lib.ListN.{length, getD, take, drop}
 use Rattle.sheet.specs.Index.{someBelow, table}
-use Rattle.sheet.specs.Record.{noTransition, moveOf}
+use Rattle.sheet.specs.Record.{moveOf}
 use Rattle.sheet.specs.Grounds.{outside, partsGround}
 use Rattle.sheet.specs.declared.Transition.{Transition}
 use Rattle.sheet.specs.declared.Sheet.{Sheet}
@@ -32,13 +31,17 @@ siteMarks counts marks i = take (getD counts i 0) (drop (8 * i) marks)
 unfoldable pub marksFor : List ℕ → List ℕ → List ℕ
 marksFor counts marks = flatMap (siteMarks counts marks) (table (λ (i : ℕ). i) 4)
 
+-- the messages outstanding at first, and the number of transitions
+unfoldable pub middleBytes : ℕ → ℕ → List ℕ
+middleBytes first moves = fourBytes first ++ (moves ∷ [])
+
 -- all that follows the length: version, number of sites, counts, marks, first messages, number of transitions, transitions
 unfoldable pub bodyOf : Sheet → List ℕ
 bodyOf s =
     (1 ∷ s .sites ∷ take (s .sites) (s .counts))
-    ++ (marksFor (s .counts) (s .marks) ++ ((fourBytes (s .first) ++ (s .moves ∷ [])) ++ flatMap transitionBytes (take (s .moves) (s .transitions))))
+    ++ (marksFor (s .counts) (s .marks) ++ (middleBytes (s .first) (s .moves) ++ flatMap transitionBytes (take (s .moves) (s .transitions))))
 
--- the record of the parts. A number that is too large for its byte stands in it as it is: the reader refuses such a record too
+-- the record of the parts. A number of transitions that is too large for its byte stands in it as it is: the reader refuses such a record too
 unfoldable pub recordOf : Sheet → List ℕ
 recordOf s = length (bodyOf s) / 256 ∷ length (bodyOf s) % 256 ∷ bodyOf s
 
@@ -48,7 +51,7 @@ recordOf s = length (bodyOf s) / 256 ∷ length (bodyOf s) % 256 ∷ bodyOf s
 unfoldable pub wrongCount : Bool → ℕ → Bool
 wrongCount there count = cond there (outside 1 8 count) (not (eqb count 0))
 
--- 23: site or state count outside its range
+-- 23: site or state count outside its range, or an absent site has a count
 unfoldable pub wrongCounts : Sheet → Bool
 wrongCounts s = outside 2 4 (s .sites) || someBelow (λ (i : ℕ). wrongCount (ltb i (s .sites)) (getD (s .counts) i 0)) 4
 
@@ -68,15 +71,19 @@ wrongMoves s = ltb 64 (s .moves) || someBelow (strayMove s) 64
 unfoldable pub strayMark : List ℕ → List ℕ → ℕ → Bool
 strayMark counts marks k = leb (getD counts (k / 8) 0) (k % 8) && not (eqb (getD marks k 0) 0)
 
--- the first of grounds 23 to 29 against the parts, 0 for none; a stray mark is 25, like one out of range
+-- 25, beyond the reader's: a state that is not there has a mark
+abbrev pub strayMarks : Sheet → Bool
+strayMarks s = someBelow (strayMark (s .counts) (s .marks)) 32
+
+-- the first of grounds 23 to 29 against the parts, 0 for none
 unfoldable pub writeGround : Sheet → ℕ
-writeGround s = cond (wrongCounts s) 23 (cond (wrongMoves s) 24 (cond (someBelow (strayMark (s .counts) (s .marks)) 32) 25 (partsGround s)))
+writeGround s = cond (wrongCounts s) 23 (cond (wrongMoves s) 24 (cond (strayMarks s) 25 (partsGround s)))
 
 -- ---- the answer
 
--- "32, not enough room for the whole record, tested after 29"
+-- "32, not enough room for the whole record, tested after 29": so many bytes are free
 unfoldable pub refusalFor : Sheet → ℕ → ℕ
-refusalFor s room = cond (eqb (writeGround s) 0) (cond (leb (length (recordOf s)) room) 0 32) (writeGround s)
+refusalFor s free = cond (eqb (writeGround s) 0) (cond (leb (length (recordOf s)) free) 0 32) (writeGround s)
 
 -- "the room is unchanged on any refusal, else past the record": the answer, and the room then
 unfoldable pub writeOf : Sheet → List ℕ → Written × List ℕ

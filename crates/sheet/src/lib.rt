@@ -1,5 +1,6 @@
 // Protocol sheets (01, "Protocol sheets"): the record, its parts, the reader with grounds 21 to 29, and the writer with 23 to 29 and 32.
-// Neither knows anything of what a sheet is judged by. The grounds from 25 on are stated over the parts alone, and are the same for both.
+// Neither knows anything of what a sheet is judged by. The grounds from 25 on are stated over the parts alone, and are those of both; the writer
+// has besides what stands where a sheet has nothing.
 ghost use mathlib.Core.Path.{_≡_};
 ghost use Rattle.sheet.specs.Record.{noTransition, noSheet};
 ghost use Rattle.sheet.specs.Grounds.{sheetGround, sheetOf};
@@ -78,18 +79,15 @@ pub fn write(sheet: Sheet, room: &mut [u8]) -> Written
             length: 0,
         };
     }
-    let size = writer::size_of(sheet);
-    if room.len() < size {
+    let length = writer::record_length(sheet);
+    if room.len() < length {
         return Written {
             refusal: 32,
             length: 0,
         };
     }
-    writer::put_record(room, sheet, size);
-    Written {
-        refusal: 0,
-        length: size,
-    }
+    writer::put_record(room, sheet, length);
+    Written { refusal: 0, length }
 }
 
 // The sheet whose parts 810 bytes are; no sheet where there are more or fewer.

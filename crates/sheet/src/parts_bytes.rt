@@ -46,8 +46,8 @@ fn put_states(room: &mut [u8], sites: u8, counts: [u8; 4], marks: [u8; 32]) -> u
     requires { ⌜ 37 ≤ length (now room) ⌝ }
     ensures { λ r. ⌜ Put (now (room .entry)) 0 ((sites ∷ counts) ++ marks) (now (room .exit)) r ⌝ }
 {
-    let first = [sites];
-    let counted = text::put(room, 0, &first);
+    let number = [sites];
+    let counted = text::put(room, 0, &number);
     let marked = text::put(room, counted, &counts);
     text::put(room, marked, &marks)
 }

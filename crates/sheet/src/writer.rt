@@ -4,10 +4,10 @@ ghost use mathlib.Core.Bool.{not, _&&_};
 ghost use mathlib.Core.List.{_∷_, [], _++_, flatMap};
 ghost use Prim.Native.Nat.{ℕ, _+_, _*_, _/_, _%_, _≤_, _<_, _^_};
 ghost use lib.Dec.{eqb};
-ghost use lib.ListN.{length, getD, take};
+ghost use lib.ListN.{length, getD, take, drop};
 ghost use Rattle.text.specs.Text.{Put};
 ghost use Rattle.sheet.specs.Index.{someBelow};
-ghost use Rattle.sheet.specs.Write.{fourBytes, transitionBytes, marksFor, recordOf, wrongCount, wrongCounts, filled, wrongMoves, strayMark, writeGround};
+ghost use Rattle.sheet.specs.Write.{fourBytes, middleBytes, transitionBytes, marksFor, recordOf, wrongCount, wrongCounts, filled, wrongMoves, strayMark, writeGround};
 use super::Sheet;
 use super::Transition;
 use super::frame;
@@ -32,7 +32,7 @@ pub(crate) fn write_ground(sheet: Sheet) -> u8
     grounds::parts_ground(sheet)
 }
 
-// Ground 23: site or state count outside its range.
+// Ground 23: site or state count outside its range, or an absent site has a count.
 fn has_wrong_counts(sheet: Sheet) -> bool
     ensures { λ r. ⌜ r ≡ wrongCounts sheet ⌝ }
 {
@@ -86,8 +86,8 @@ fn has_wrong_moves(sheet: Sheet) -> bool
 fn is_filled(t: Transition) -> bool
     ensures { λ r. ⌜ r ≡ filled t ⌝ }
 {
-    let ends = t.site as u64 + t.from as u64 + t.to as u64 + t.vote as u64;
-    ends + t.reads as u64 + t.writes as u64 != 0
+    let bytes = t.site as u64 + t.from as u64 + t.to as u64 + t.vote as u64;
+    bytes + t.reads as u64 + t.writes as u64 != 0
 }
 
 // Ground 25 beyond the reader's: whether a state that is not there has a mark.
@@ -116,8 +116,8 @@ fn is_stray(mark: u8, absent: bool) -> bool
     false
 }
 
-// The length of a record of so many sites and transitions; its parts have no ground against them.
-pub(crate) fn size_of(sheet: Sheet) -> usize
+// The length of the record of parts that have no ground against them.
+pub(crate) fn record_length(sheet: Sheet) -> usize
     requires { ⌜ writeGround sheet ≡ 0 ⌝ }
     ensures { λ r. ⌜ (r ≡ length (recordOf sheet)) × (2 ≤ r) × (r < 2 ^ 16) ⌝ }
 {
@@ -145,8 +145,8 @@ fn put_transition(room: &mut [u8], at: usize, t: Transition) -> usize
     requires { ⌜ at + 12 ≤ length (now room) ⌝ }
     ensures { λ r. ⌜ Put (now (room .entry)) at (transitionBytes t) (now (room .exit)) r ⌝ }
 {
-    let ends = [t.site, t.from, t.to, t.vote];
-    let read = text::put(room, at, &ends);
+    let bytes = [t.site, t.from, t.to, t.vote];
+    let read = text::put(room, at, &bytes);
     let written = put_four(room, read, t.reads);
     put_four(room, written, t.writes)
 }
@@ -171,12 +171,12 @@ pub(crate) fn put_transitions(
     to
 }
 
-// Puts length, version, number of sites and state counts at the front, and says where they end.
-fn put_head(room: &mut [u8], size: usize, sites: u8, counts: [u8; 4]) -> usize
-    requires { ⌜ (size < 2 ^ 16) × (sites ≤ 4) × (4 + sites ≤ length (now room)) ⌝ }
-    ensures { λ r. ⌜ Put (now (room .entry)) 0 (size / 256 ∷ size % 256 ∷ 1 ∷ sites ∷ take sites counts) (now (room .exit)) r ⌝ }
+// Puts the length of what follows it, version, number of sites and state counts at the front, and says where they end.
+fn put_head(room: &mut [u8], follows: usize, sites: u8, counts: [u8; 4]) -> usize
+    requires { ⌜ (follows < 2 ^ 16) × (sites ≤ 4) × (4 + sites ≤ length (now room)) ⌝ }
+    ensures { λ r. ⌜ Put (now (room .entry)) 0 (follows / 256 ∷ follows % 256 ∷ 1 ∷ sites ∷ take sites counts) (now (room .exit)) r ⌝ }
 {
-    let head = [(size / 256) as u8, (size % 256) as u8, 1, sites];
+    let head = [(follows / 256) as u8, (follows % 256) as u8, 1, sites];
     let at = text::put(room, 0, &head);
     let there = sites as usize;
     text::put(room, at, &counts[0..there])
@@ -201,7 +201,7 @@ fn put_marks(room: &mut [u8], at: usize, counts: [u8; 4], marks: [u8; 32]) -> us
 // Puts the first messages and the number of transitions, and says where they end.
 pub(crate) fn put_middle(room: &mut [u8], at: usize, first: u32, moves: u8) -> usize
     requires { ⌜ at + 5 ≤ length (now room) ⌝ }
-    ensures { λ r. ⌜ Put (now (room .entry)) at (fourBytes first ++ (moves ∷ [])) (now (room .exit)) r ⌝ }
+    ensures { λ r. ⌜ Put (now (room .entry)) at (middleBytes first moves) (now (room .exit)) r ⌝ }
 {
     let counted = put_four(room, at, first);
     let count = [moves];
@@ -209,9 +209,9 @@ pub(crate) fn put_middle(room: &mut [u8], at: usize, first: u32, moves: u8) -> u
 }
 
 // Puts the record of parts that have no ground against them at the front of a room that is large enough.
-pub(crate) fn put_record(room: &mut [u8], sheet: Sheet, size: usize) -> usize
+pub(crate) fn put_record(room: &mut [u8], sheet: Sheet, size: usize)
     requires { ⌜ (writeGround sheet ≡ 0) × (size ≡ length (recordOf sheet)) × (size ≤ length (now room)) ⌝ }
-    ensures { λ r. ⌜ Put (now (room .entry)) 0 (recordOf sheet) (now (room .exit)) r ⌝ }
+    ensures { λ _. ⌜ now (room .exit) ≡ recordOf sheet ++ drop size (now (room .entry)) ⌝ }
 {
     let counts = sheet.counts;
     let marks = sheet.marks;
@@ -219,5 +219,5 @@ pub(crate) fn put_record(room: &mut [u8], sheet: Sheet, size: usize) -> usize
     let marked = put_head(room, size - 2, sheet.sites, counts);
     let first = put_marks(room, marked, counts, marks);
     let moved = put_middle(room, first, sheet.first, sheet.moves as u8);
-    put_transitions(room, moved, transitions, sheet.moves)
+    put_transitions(room, moved, transitions, sheet.moves);
 }

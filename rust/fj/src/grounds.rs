@@ -1,9 +1,9 @@
-//! A sentence for each ground of refusal, under document 01's number.
+//! A sentence for each ground of refusal, under the documents' number.
 
 use fjadrimor::Refusal;
 
 /// The sentence of a ground.
 pub fn sentence(ground: u8) -> &'static str {
     Refusal::numbered(ground)
-        .map_or("a ground that document 01 does not name", |refusal| refusal.sentence())
+        .map_or("a ground that no document names", |refusal| refusal.sentence())
 }

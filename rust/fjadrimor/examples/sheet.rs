@@ -16,6 +16,8 @@ fn protocol(phases: usize) -> Result<Sheet, Misnamed> {
     let states = &states[..phases + 2];
     let mut sheet = Sheet::builder();
     let (coordinator, slave) = (sheet.site(states), sheet.site(states));
+    // The messages are listed, so that a misspelt one is told.
+    sheet.messages(&["request", "start", "yes", "no", "abort", "commit"]);
     sheet.first(&["request"]);
     sheet.transition(coordinator, "q", "w").reads(&["request"]).writes(&["start"]);
     sheet.transition(coordinator, "w", "a").reads(&["yes"]).writes(&["abort"]);
@@ -24,6 +26,7 @@ fn protocol(phases: usize) -> Result<Sheet, Misnamed> {
     sheet.transition(slave, "q", "a").reads(&["start"]).writes(&["no"]);
     sheet.transition(slave, "w", "a").reads(&["abort"]);
     if phases == 3 {
+        sheet.messages(&["prepare", "ack"]);
         sheet.transition(coordinator, "w", "p").reads(&["yes"]).writes(&["prepare"]).votes_yes();
         sheet.transition(coordinator, "p", "c").reads(&["ack"]).writes(&["commit"]);
         sheet.transition(slave, "w", "p").reads(&["prepare"]).writes(&["ack"]);

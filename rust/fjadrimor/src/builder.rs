@@ -9,6 +9,10 @@ const MESSAGES: usize = 32;
 /// Builds a [`Sheet`] by the names of states and messages. State names belong to their site, message
 /// names to the sheet; messages are numbered in the order in which they are first named.
 ///
+/// A message is made where its name comes first, so that a misspelt one would be a message of its own,
+/// and the sheet another protocol. List them with [`SheetBuilder::messages`] before they are used: then
+/// a name that is not listed is told.
+///
 /// ```
 /// use fjadrimor::Mark::{Abort, Commit, Working};
 /// use fjadrimor::{Sheet, Verdict};
@@ -17,6 +21,7 @@ const MESSAGES: usize = 32;
 /// let states = [("q", Working), ("w", Working), ("a", Abort), ("c", Commit)];
 /// let coordinator = protocol.site(&states);
 /// let slave = protocol.site(&states);
+/// protocol.messages(&["request", "start", "yes", "no", "abort", "commit"]);
 /// protocol.first(&["request"]);
 /// protocol.transition(coordinator, "q", "w").reads(&["request"]).writes(&["start"]);
 /// protocol.transition(coordinator, "w", "c").reads(&["yes"]).writes(&["commit"]).votes_yes();
@@ -40,6 +45,8 @@ pub struct SheetBuilder {
     /// The names of each site's states, and of the messages.
     states: Vec<Vec<String>>,
     messages: Vec<String>,
+    /// Whether the messages were listed: then no other name makes one.
+    listed: bool,
     /// The first name that does not fit.
     misnamed: Option<Misnamed>,
 }
@@ -53,6 +60,8 @@ pub enum Misnamed {
     NoState { site: u8, name: String },
     /// The site has two states of this name.
     SameState { site: u8, name: String },
+    /// Messages were listed, and none of this name.
+    NoMessage(String),
     /// A sheet has at most 32 messages, and this is one more.
     ManyMessages(String),
 }
@@ -75,9 +84,16 @@ impl SheetBuilder {
         number
     }
 
-    /// Names messages, so that they are numbered in this order.
+    /// Lists messages, so that they are numbered in this order and every other name is told; a further
+    /// list adds to the first. Without a list, names make messages.
     pub fn messages(&mut self, names: &[&str]) {
+        let earlier = |name: &&String| !self.listed && !names.contains(&name.as_str());
+        if let Some(name) = self.messages.iter().find(earlier).cloned() {
+            self.note(Misnamed::NoMessage(name));
+        }
+        self.listed = false;
         self.set(names);
+        self.listed = true;
     }
 
     /// The messages outstanding at first, besides those that are so already.
@@ -127,10 +143,11 @@ impl SheetBuilder {
     fn message(&mut self, name: &str) -> u8 {
         let known = self.messages.iter().position(|message| message == name);
         let place = known.unwrap_or(self.messages.len());
-        if known.is_none() && place == MESSAGES {
-            self.note(Misnamed::ManyMessages(name.to_string()));
-        } else if known.is_none() {
-            self.messages.push(name.to_string());
+        match known {
+            Some(_) => (),
+            None if self.listed => self.note(Misnamed::NoMessage(name.to_string())),
+            None if place == MESSAGES => self.note(Misnamed::ManyMessages(name.to_string())),
+            None => self.messages.push(name.to_string()),
         }
         place as u8
     }
@@ -179,6 +196,7 @@ impl fmt::Display for Misnamed {
             Misnamed::NoSite(site) => write!(out, "there is no site {site}"),
             Misnamed::NoState { site, name } => write!(out, "site {site} has no state {name}"),
             Misnamed::SameState { site, name } => write!(out, "site {site} has two states {name}"),
+            Misnamed::NoMessage(name) => write!(out, "no list of messages has {name}"),
             Misnamed::ManyMessages(name) => {
                 write!(out, "a sheet has at most {MESSAGES} messages, and {name} is one more")
             }

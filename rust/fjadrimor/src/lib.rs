@@ -53,7 +53,7 @@
 //!   records in one call, and [`Day`] is its answer.
 //! - [`Sheet`]: a commit protocol written down, read from its record and written to it, and built by
 //!   names with a [`SheetBuilder`]. [`judge`] gives the [`Verdict`] whether it is nonblocking.
-//! - [`Refusal`]: why a call was refused, with the number of document 01 and a sentence.
+//! - [`Refusal`]: why a call was refused, with the documents' number and a sentence.
 //! - [`calls`]: the C interface itself, on bytes.
 
 mod builder;

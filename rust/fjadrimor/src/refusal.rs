@@ -2,11 +2,11 @@
 
 use std::fmt;
 
-/// Says each ground once: its name (include/fjadrimor.h has the same), document 01's number, and
+/// Says each ground once: its name (include/fjadrimor.h has the same), the documents' number, and
 /// what it means.
 macro_rules! grounds {
     ($($name:ident = $number:literal, $sentence:literal;)*) => {
-        /// A ground for refusal, with the number that document 01 gives it.
+        /// A ground for refusal, with the number that document 01 gives it, or document 02 (32).
         ///
         /// A refused call leaves the site, the run or the journal as it was. Of the records of a
         /// [`Run::journal`](crate::Run::journal), those before the refused one count.
@@ -59,7 +59,7 @@ grounds! {
 }
 
 impl Refusal {
-    /// Document 01's number.
+    /// The documents' number.
     pub fn number(self) -> u8 {
         self as u8
     }
@@ -74,7 +74,7 @@ impl Refusal {
         match returned {
             0 => Ok(()),
             ground => {
-                Err(Refusal::numbered(ground).expect("the library refuses with 01's numbers"))
+                Err(Refusal::numbered(ground).expect("the library refuses with known numbers"))
             }
         }
     }

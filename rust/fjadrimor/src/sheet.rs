@@ -191,6 +191,12 @@ impl Messages {
         Messages(mask)
     }
 
+    /// The set of these messages, or none where a number is not 0 to 31.
+    pub fn of(messages: &[u8]) -> Option<Messages> {
+        let known = messages.iter().all(|&message| weight(message) != 0);
+        known.then(|| messages.iter().copied().collect())
+    }
+
     /// The set's mask.
     pub fn mask(self) -> u32 {
         self.0
@@ -216,7 +222,7 @@ fn weight(message: u8) -> u32 {
     1u32.checked_shl(message.into()).unwrap_or(0)
 }
 
-/// Numbers that are not 0 to 31 are left out.
+/// Numbers that are not 0 to 31 are left out; [`Messages::of`] tells of them.
 impl FromIterator<u8> for Messages {
     fn from_iter<I: IntoIterator<Item = u8>>(messages: I) -> Messages {
         Messages(messages.into_iter().fold(0, |mask, message| mask | weight(message)))

@@ -53,6 +53,9 @@ fn a_set_of_messages_has_weight_2_to_the_message() {
     }
     assert_eq!([0, 5, 31].into_iter().collect::<Messages>().mask(), 0x8000_0021);
     assert_eq!([32, 255].into_iter().collect::<Messages>().mask(), 0);
+    assert_eq!(Messages::of(&[0, 5, 31]), Some(Messages::from_mask(0x8000_0021)));
+    assert_eq!(Messages::of(&[]), Some(Messages::default()));
+    assert_eq!([32, 255].map(|message| Messages::of(&[0, message])), [None, None]);
     assert_eq!(format!("{:?}", Messages::from_mask(6)), "{1, 2}");
 }
 

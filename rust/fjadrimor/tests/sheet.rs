@@ -163,7 +163,7 @@ fn built(more: impl FnOnce(&mut SheetBuilder)) -> Result<Sheet, Misnamed> {
     let states = [("q", Working), ("c", Commit)];
     let (one, two) = (protocol.site(&states), protocol.site(&states));
     assert_eq!((one, two), (1, 2));
-    protocol.messages(&["done"]);
+    protocol.messages(&["done", "go"]);
     protocol.first(&["go"]);
     protocol.transition(one, "q", "c").reads(&["go"]).writes(&["done"]).votes_yes();
     protocol.transition(two, "q", "c").reads(&["done"]).votes_yes();
@@ -185,10 +185,13 @@ fn a_sheet_by_names() {
 #[test]
 fn lists_may_be_given_in_parts() {
     let whole = built(|sheet| {
+        sheet.messages(&["a", "b", "d"]);
         sheet.first(&["a", "b"]);
         sheet.transition(1, "q", "c").reads(&["a", "b"]).writes(&["d"]);
     });
     let in_parts = built(|sheet| {
+        sheet.messages(&["a"]);
+        sheet.messages(&["b", "d"]);
         sheet.first(&["a"]);
         sheet.first(&["b"]);
         sheet.transition(1, "q", "c").reads(&["a"]).reads(&["b", "a"]).writes(&["d"]);
@@ -220,4 +223,50 @@ fn a_name_that_does_not_fit_is_told() {
     };
     assert!(named(30).is_ok());
     assert_eq!(named(31), Err(Misnamed::ManyMessages("m30".to_string())));
+}
+
+/// A transition that reads one message and writes another, after what is said of the messages.
+fn between(listed: fn(&mut SheetBuilder), reads: &str, writes: &str) -> Result<Sheet, Misnamed> {
+    let mut protocol = Sheet::builder();
+    let site = protocol.site(&[("q", Working), ("c", Commit)]);
+    listed(&mut protocol);
+    protocol.transition(site, "q", "c").reads(&[reads]).writes(&[writes]);
+    protocol.build()
+}
+
+#[test]
+fn a_message_that_is_not_listed_is_told() {
+    let listed = |sheet: &mut SheetBuilder| sheet.messages(&["go", "commit"]);
+    let unlisted = |name: &str| Err(Misnamed::NoMessage(name.to_string()));
+    assert!(between(listed, "go", "commit").is_ok());
+    assert_eq!(between(listed, "go", "comit"), unlisted("comit"));
+    assert_eq!(between(listed, "og", "comit"), unlisted("og"));
+    let first = |sheet: &mut SheetBuilder| {
+        sheet.messages(&["go", "commit"]);
+        sheet.first(&["gone"]);
+    };
+    assert_eq!(between(first, "go", "commit"), unlisted("gone"));
+    let too_early = |sheet: &mut SheetBuilder| {
+        sheet.first(&["gone"]);
+        sheet.messages(&["go", "commit"]);
+    };
+    assert_eq!(between(too_early, "go", "commit"), unlisted("gone"));
+    assert_eq!(Misnamed::NoMessage("x".to_string()).to_string(), "no list of messages has x");
+}
+
+#[test]
+fn without_a_list_names_make_messages() {
+    let sheet = between(|_| (), "go", "comit").unwrap();
+    let sets = (sheet.transitions[0].reads.mask(), sheet.transitions[0].writes.mask());
+    assert_eq!(sets, (1, 2));
+}
+
+#[test]
+fn a_full_list_still_tells_a_misspelling() {
+    let full = |sheet: &mut SheetBuilder| {
+        let names: Vec<String> = (0..32).map(|number| format!("m{number}")).collect();
+        sheet.messages(&names.iter().map(String::as_str).collect::<Vec<_>>());
+    };
+    assert!(between(full, "m0", "m31").is_ok());
+    assert_eq!(between(full, "m0", "m32"), Err(Misnamed::NoMessage("m32".to_string())));
 }

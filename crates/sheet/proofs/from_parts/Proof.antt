@@ -1,6 +1,5 @@
 -- `from_parts` meets its contract: what 810 bytes tell, or no sheet.
 -- Assumes nothing.
-use mathlib.Core.Path.{sym, _∙_}
 use native.Mathlib.Omega.{arith}
 use borrow.Author.Tests.{eq-eqb, ne-eqb}
 use Rattle.sheet.specs.Parts.{partsSize, partsFrom}

@@ -1,6 +1,6 @@
 -- `put_parts` meets its contract: in a room that is large enough.
 -- Assumes nothing.
-use mathlib.Core.Path.{sym, _∙_}
+use mathlib.Core.Path.{sym}
 use borrow.Author.Tests.{lt-leb, le-leb}
 use Rattle.sheet.specs.Parts.{partsSize, partsPut}
 use borrow.Author.Needs.{needs}

@@ -16,20 +16,22 @@ pub struct Sheet {
     pub transitions: Vec<Transition>,
 }
 
-/// A site's name may be empty; its number is its place, from 1.
+/// A site's name may be empty; its number is its place, from 1. Sites, states and transitions have the
+/// line of the notation that says them (0 where bytes do).
 #[derive(Clone, Debug)]
 pub struct Site {
     pub name: String,
     pub states: Vec<State>,
+    pub line: usize,
 }
 
 #[derive(Clone, Debug)]
 pub struct State {
     pub name: String,
     pub mark: Mark,
+    pub line: usize,
 }
 
-/// A transition, with the line of the notation that says it (0 where bytes do).
 #[derive(Clone, Copy, Debug, PartialEq, Eq)]
 pub struct Transition {
     pub site: u8,
@@ -113,8 +115,10 @@ impl Sheet {
 impl Site {
     /// A site whose states are named after their places.
     fn named(marks: &[Mark]) -> Site {
-        let state = |(place, &mark): (usize, &Mark)| State { name: format!("s{place}"), mark };
-        Site { name: String::new(), states: marks.iter().enumerate().map(state).collect() }
+        let state =
+            |(place, &mark): (usize, &Mark)| State { name: format!("s{place}"), mark, line: 0 };
+        let states = marks.iter().enumerate().map(state).collect();
+        Site { name: String::new(), states, line: 0 }
     }
 }
 

@@ -6,9 +6,6 @@ use crate::place::Error;
 /// What a line's part gives, or the reason why it gives nothing.
 type Said<T> = Result<T, String>;
 
-/// The most of anything that a byte can count.
-const COUNTED: usize = 255;
-
 /// Words that divide a transition, so that no message can have them as a name.
 const CLAUSES: [&str; 3] = ["reads", "writes", "votes"];
 
@@ -33,8 +30,8 @@ fn take(sheet: &mut Sheet, words: &[&str], line: usize) -> Said<()> {
     match words {
         [] => Ok(()),
         ["protocol", title @ ..] => protocol(sheet, title),
-        ["site", number, name @ ..] => site(sheet, number, name),
-        ["state", name, mark] => state(sheet, name, mark),
+        ["site", number, name @ ..] => site(sheet, number, name, line),
+        ["state", name, mark] => state(sheet, name, mark, line),
         ["state", ..] => Err("a state has a name and a mark: state NAME MARK".to_string()),
         ["messages", names @ ..] => names.iter().try_for_each(|name| message(sheet, name)),
         ["first", names @ ..] => first(sheet, names),
@@ -53,17 +50,16 @@ fn protocol(sheet: &mut Sheet, title: &[&str]) -> Said<()> {
     Ok(())
 }
 
-fn site(sheet: &mut Sheet, number: &str, name: &[&str]) -> Said<()> {
+fn site(sheet: &mut Sheet, number: &str, name: &[&str], line: usize) -> Said<()> {
     let next = sheet.sites.len() + 1;
     if number != next.to_string() {
         return Err(format!("sites come in order: the next one is site {next}, not {number}"));
     }
-    counted(next, "sites")?;
-    sheet.sites.push(Site { name: name.join(" "), states: Vec::new() });
+    sheet.sites.push(Site { name: name.join(" "), states: Vec::new(), line });
     Ok(())
 }
 
-fn state(sheet: &mut Sheet, name: &str, mark: &str) -> Said<()> {
+fn state(sheet: &mut Sheet, name: &str, mark: &str, line: usize) -> Said<()> {
     let number = sheet.sites.len();
     let site = sheet.sites.last_mut().ok_or("a state belongs below its site")?;
     let name = named(name)?;
@@ -72,8 +68,8 @@ fn state(sheet: &mut Sheet, name: &str, mark: &str) -> Said<()> {
     }
     let known = Mark::ALL.into_iter().find(|known| known.name() == mark);
     let mark = known.ok_or(format!("a state is working, abort or commit, not {mark}"))?;
-    site.states.push(State { name, mark });
-    counted(site.states.len(), "states at one site")
+    site.states.push(State { name, mark, line });
+    Ok(())
 }
 
 fn message(sheet: &mut Sheet, name: &str) -> Said<()> {
@@ -127,7 +123,7 @@ fn transition(sheet: &mut Sheet, site: &str, words: &[&str], line: usize) -> Sai
         rest = left;
     }
     sheet.transitions.push(Transition {
-        site,
+        site: in_a_byte(site),
         from,
         to,
         votes: votes.is_some(),
@@ -135,7 +131,7 @@ fn transition(sheet: &mut Sheet, site: &str, words: &[&str], line: usize) -> Sai
         writes: writes.unwrap_or(0),
         line,
     });
-    counted(sheet.transitions.len(), "transitions")
+    Ok(())
 }
 
 fn vote(list: &[&str]) -> Said<()> {
@@ -162,15 +158,21 @@ fn messages(sheet: &Sheet, list: &[&str]) -> Said<u32> {
     Ok(set)
 }
 
-fn site_number(sheet: &Sheet, number: &str) -> Said<u8> {
+fn site_number(sheet: &Sheet, number: &str) -> Said<usize> {
     let known = (1..=sheet.sites.len()).find(|site| site.to_string() == number);
-    known.map(|site| site as u8).ok_or(format!("there is no site {number}"))
+    known.ok_or(format!("there is no site {number}"))
 }
 
-fn state_number(sheet: &Sheet, site: u8, name: &str) -> Said<u8> {
-    let states = &sheet.sites[usize::from(site) - 1].states;
+fn state_number(sheet: &Sheet, site: usize, name: &str) -> Said<u8> {
+    let states = &sheet.sites[site - 1].states;
     let known = states.iter().position(|state| state.name == name);
-    known.map(|state| state as u8).ok_or(format!("site {site} has no state {name}"))
+    known.map(in_a_byte).ok_or(format!("site {site} has no state {name}"))
+}
+
+/// A site's or state's number. Where no byte holds it, the sheet has more of them than it can have:
+/// the library refuses it by their count, before a transition is looked at.
+fn in_a_byte(number: usize) -> u8 {
+    u8::try_from(number).unwrap_or(u8::MAX)
 }
 
 /// A name: letters, digits and - _ . ' * +, with a letter or digit first.
@@ -179,13 +181,5 @@ fn named(name: &str) -> Said<String> {
     match name.starts_with(char::is_alphanumeric) && name.chars().all(fits) {
         true => Ok(name.to_string()),
         false => Err(format!("{name} is no name: a name has letters, digits and - _ . ' * +")),
-    }
-}
-
-/// More than a byte counts cannot be written into a record at all.
-fn counted(count: usize, of: &str) -> Said<()> {
-    match count <= COUNTED {
-        true => Ok(()),
-        false => Err(format!("a record has no room for more than {COUNTED} {of}")),
     }
 }

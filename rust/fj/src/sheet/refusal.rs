@@ -1,15 +1,16 @@
-//! A refusal in words: 01's number, its sentence and, where it can be pointed at, the place.
+//! A refusal in words: the documents' number, its sentence and, where it can be pointed at, the place.
 
-use super::model::{Mark, Sheet, Transition};
+use super::model::{Mark, Sheet, Site, Transition};
 use super::search::{Global, Search};
 use crate::grounds::sentence;
 use crate::place::Error;
 
-/// The most transitions of a sheet.
+/// The most sites of a sheet, states of a site and transitions of a sheet.
+const SITES: usize = 4;
+const STATES: usize = 8;
 const TRANSITIONS: usize = 64;
 
-/// Where a ground shows: the line of a transition in the notation, 0 where there is none, and what
-/// stands there.
+/// Where a ground shows: the line of the notation, 0 where there is none, and what stands there.
 struct Spot {
     line: usize,
     words: String,
@@ -48,7 +49,7 @@ fn spots(ground: u8, sheet: &Sheet) -> Vec<Spot> {
     };
     let mark = |t: &Transition, state| sheet.state((t.site, state)).mark;
     match ground {
-        23 => vec![Spot { line: 0, words: counts(sheet) }],
+        23 => counts(sheet).into_iter().collect(),
         24 => vec![many(sheet)],
         26 => first(&|t| t.reads == 0),
         27 => read_twice(sheet),
@@ -78,9 +79,24 @@ fn of_message(name: &str, spot: Spot) -> Spot {
     Spot { words: format!("{name} at {}", spot.words), ..spot }
 }
 
-fn counts(sheet: &Sheet) -> String {
-    let counts: Vec<String> = sheet.sites.iter().map(|s| s.states.len().to_string()).collect();
-    format!("{} sites with {} states", counts.len(), counts.join(", "))
+/// One site alone; or the first site that is too many; or the first with no state or too many.
+fn counts(sheet: &Sheet) -> Option<Spot> {
+    if let [_] = sheet.sites[..] {
+        return Some(Spot { line: 0, words: "1 site".to_string() });
+    }
+    if let Some(site) = sheet.sites.get(SITES) {
+        return Some(Spot { line: site.line, words: format!("{} sites", sheet.sites.len()) });
+    }
+    (1..).zip(&sheet.sites).find_map(|(number, site)| states(number, site))
+}
+
+/// A site without states, or the first state of a site that is too many.
+fn states(number: usize, site: &Site) -> Option<Spot> {
+    if site.states.is_empty() {
+        return Some(Spot { line: site.line, words: format!("site {number} has no state") });
+    }
+    let line = site.states.get(STATES)?.line;
+    Some(Spot { line, words: format!("site {number} has {} states", site.states.len()) })
 }
 
 /// How many transitions there are, and the first that is too many.

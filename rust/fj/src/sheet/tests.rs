@@ -109,16 +109,39 @@ fn a_refusal_shows_its_place() {
             "messages more\n1: q -> c reads go writes more\n1: c -> c reads go",
             "two.sheet:12: refused 29: a site's diagram has a cycle, whatever the messages allow (site 1: c -> c)",
         ),
-        (
-            "site 3",
-            "two.sheet: refused 23: the number of sites is not 2 to 4, or a site's number of states is not 1 to 8 (3 sites with 3, 2, 0 states)",
-        ),
     ];
     for (more, text) in refusals {
         assert_eq!(refused(more), text);
     }
-    let many = "two.sheet:74: refused 24: the sheet has more or fewer bytes than its counts give, or over 64 transitions (66 transitions)";
-    assert_eq!(refused(&"1: q -> c reads go\n".repeat(66)), many);
+}
+
+/// Numbered lines of a sheet, from a number to another.
+fn numbered(range: std::ops::Range<u32>, line: impl Fn(u32) -> String) -> String {
+    range.map(|number| line(number) + "\n").collect()
+}
+
+/// Also where no byte holds the count, the library's ground is told, at the first that is too many.
+#[test]
+fn too_many_are_told_at_their_line() {
+    let counts =
+        "refused 23: the number of sites is not 2 to 4, or a site's number of states is not 1 to 8";
+    let state = |number| format!("state s{number} working");
+    let site = |number| format!("site {number}\nstate q working");
+    let refusals = [
+        (numbered(0..7, state), "16", "site 2 has 9 states"),
+        (numbered(0..298, state) + "2: q -> s290 reads done", "16", "site 2 has 300 states"),
+        ("site 3".to_string(), "10", "site 3 has no state"),
+        (numbered(3..6, site), "14", "5 sites"),
+        (numbered(3..301, site) + "256: q -> q reads done", "14", "300 sites"),
+    ];
+    for (more, line, words) in refusals {
+        assert_eq!(refused(&more), format!("two.sheet:{line}: {counts} ({words})"));
+    }
+    let length = "refused 24: the sheet has more or fewer bytes than its counts give, or over 64 transitions";
+    for count in [65, 255, 256, 300] {
+        let told = format!("two.sheet:74: {length} ({count} transitions)");
+        assert_eq!(refused(&"1: q -> c reads go\n".repeat(count)), told);
+    }
 }
 
 #[test]

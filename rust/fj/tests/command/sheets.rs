@@ -65,7 +65,7 @@ fn bytes_are_read_and_written_again() {
 fn a_notation_without_a_record_has_its_ground() {
     let one_site = "site 1\nstate q working\n";
     let why = "refused 23: the number of sites is not 2 to 4, or a site's number of states is not 1 to 8 \
-               (1 sites with 1 states)";
+               (1 site)";
     for command in ["judge", "judge --plain", "sheet assemble", "sheet show", "sheet draw"] {
         assert_eq!(said(command, one_site.as_bytes()), trouble(&format!(": {why}")), "{command}");
     }

@@ -1,7 +1,6 @@
 -- `marks_in` meets its contract: the places passed are filled.
 -- Assumes nothing.
 use Prim.Native.Nat.{ℕ, _+_, _-_}
-use native.Mathlib.Omega.{arith}
 use mathlib.Core.Path.{refl}
 use Rattle.sheet.proofs.IndexLaws.{Filled, filling-begins, filling-goes-on, filling-ends}
 use Rattle.sheet.specs.Record.{byte}

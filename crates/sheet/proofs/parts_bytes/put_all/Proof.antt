@@ -8,7 +8,7 @@ use lib.ListN.{length, take, drop}
 use lib.Seq.{length-take-le}
 use Rattle.text.proofs.TextLaws.{put-as}
 use Rattle.text.proofs.Putting.{begin, next, fits-next, ended, length-mapped}
-use Rattle.sheet.specs.Write.{fourBytes}
+use Rattle.sheet.specs.Write.{fourBytes, middleBytes}
 use Rattle.sheet.specs.Parts.{partsSize, partsBytes}
 use Rattle.sheet.specs.RoundTrip.{Shaped}
 use Rattle.sheet.proofs.WriteLaws.{transitions-length}
@@ -24,7 +24,7 @@ cast-put-middle : tie.Need-cast-put-middle
 cast-put-middle c = search needs
 
 put-middle-requires : tie.Need-put-middle-requires
-unfolding fourBytes
+unfolding middleBytes fourBytes
 put-middle-requires c κs = let shaped : Shaped (c .before .before .before .before .before .before .before .before .before .before .args .sheet) = record { counts = search needs; marks = search needs; transitions = search (needs, length-mapped) } in let g0 = begin (c .before .before .before .before .before .before .before .before .before .before .args .room .now) 0 (partsPieces (c .before .before .before .before .before .before .before .before .before .before .args .sheet)) (subst (λ (x : List ℕ). 0 + length x ≤ length (c .before .before .before .before .before .before .before .before .before .before .args .room .now)) (sym (parts-pieces (c .before .before .before .before .before .before .before .before .before .before .args .sheet) shaped)) (omega (arith, parts-length (c .before .before .before .before .before .before .before .before .before .before .args .sheet) shaped, c .before .before .before .before .before .before .before .before .before .before .pre))) in let g3 = next g0 (c .before .before .before .before .put-states .ensures) in fits-next g3
 
 put-transitions-requires : tie.Need-put-transitions-requires

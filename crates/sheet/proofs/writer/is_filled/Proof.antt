@@ -6,26 +6,26 @@ use borrow.Author.Needs.{needs}
 use Rattle.sheet.proofs.writer.is_filled.Statement.{statement}
 use Rattle.sheet.proofs.writer.is_filled.Tie as tie
 
-cast-ends : tie.Need-cast-ends
-cast-ends c = search needs
+cast-bytes : tie.Need-cast-bytes
+cast-bytes c = search needs
 
-cast-ends-2 : tie.Need-cast-ends-2
-cast-ends-2 c = search needs
+cast-bytes-2 : tie.Need-cast-bytes-2
+cast-bytes-2 c = search needs
 
-add-ends : tie.Need-add-ends
-add-ends c = search needs
+add-bytes : tie.Need-add-bytes
+add-bytes c = search needs
 
-cast-ends-3 : tie.Need-cast-ends-3
-cast-ends-3 c = search needs
+cast-bytes-3 : tie.Need-cast-bytes-3
+cast-bytes-3 c = search needs
 
-add-ends-2 : tie.Need-add-ends-2
-add-ends-2 c = search needs
+add-bytes-2 : tie.Need-add-bytes-2
+add-bytes-2 c = search needs
 
-cast-ends-4 : tie.Need-cast-ends-4
-cast-ends-4 c = search needs
+cast-bytes-4 : tie.Need-cast-bytes-4
+cast-bytes-4 c = search needs
 
-add-ends-3 : tie.Need-add-ends-3
-add-ends-3 c = search needs
+add-bytes-3 : tie.Need-add-bytes-3
+add-bytes-3 c = search needs
 
 cast-result : tie.Need-cast-result
 cast-result c = search needs
@@ -47,13 +47,13 @@ pub is-filled-spec : {M : Type 1} → statement M
 is-filled-spec =
     tie.close
     (tie.spec
-    cast-ends
-    cast-ends-2
-    add-ends
-    cast-ends-3
-    add-ends-2
-    cast-ends-4
-    add-ends-3
+    cast-bytes
+    cast-bytes-2
+    add-bytes
+    cast-bytes-3
+    add-bytes-2
+    cast-bytes-4
+    add-bytes-3
     cast-result
     add-result
     cast-result-2

@@ -39,7 +39,7 @@ same-length : tie.Need-same-length
 same-length c = search needs
 
 returns : tie.Need-returns
-returns c = let head = put-fits (c .before .before .before .before .before .before .before .before .before .before .before .before .args .room .now) 0 (c .before .before .before .before .before .before .before .before .before .before .before .before .args .size / 256 ∷ c .before .before .before .before .before .before .before .before .before .before .before .before .args .size % 256 ∷ 1 ∷ c .before .before .before .before .before .before .before .before .before .before .before .before .args .sites ∷ []) (omega (arith, c .before .before .before .before .before .before .before .before .before .before .before .before .pre .2)) (c .before .before .before .before .before .before .before .before .put .ensures) in let all : length (take (c .before .before .before .before .before .before .before .before .before .before .before .before .args .sites) (c .before .before .before .before .before .before .before .before .before .before .before .before .args .t4)) ≡ c .before .before .before .before .before .before .before .before .before .before .before .before .args .sites = length-take-le (c .before .before .before .before .before .before .before .before .before .before .before .before .args .sites) (c .before .before .before .before .before .before .before .before .before .before .before .before .args .t4) (search needs) in let size : c .before .before .before .before .before .before .before .before .before .before .before .before .args .sites - 0 ≡ c .before .before .before .before .before .before .before .before .before .before .before .before .args .sites = omega arith in put-then head (put-fits _ _ (take (c .before .before .before .before .before .before .before .before .before .before .before .before .args .sites) (c .before .before .before .before .before .before .before .before .before .before .before .before .args .t4)) (omega (arith, all, head .to, put-length head, c .before .before .before .before .before .before .before .before .before .before .before .before .pre .2)) (simp size at (c .before .before .put2 .ensures)))
+returns c = let head = put-fits (c .before .before .before .before .before .before .before .before .before .before .before .before .args .room .now) 0 (c .before .before .before .before .before .before .before .before .before .before .before .before .args .follows / 256 ∷ c .before .before .before .before .before .before .before .before .before .before .before .before .args .follows % 256 ∷ 1 ∷ c .before .before .before .before .before .before .before .before .before .before .before .before .args .sites ∷ []) (omega (arith, c .before .before .before .before .before .before .before .before .before .before .before .before .pre .2)) (c .before .before .before .before .before .before .before .before .put .ensures) in let all : length (take (c .before .before .before .before .before .before .before .before .before .before .before .before .args .sites) (c .before .before .before .before .before .before .before .before .before .before .before .before .args .t4)) ≡ c .before .before .before .before .before .before .before .before .before .before .before .before .args .sites = length-take-le (c .before .before .before .before .before .before .before .before .before .before .before .before .args .sites) (c .before .before .before .before .before .before .before .before .before .before .before .before .args .t4) (search needs) in let size : c .before .before .before .before .before .before .before .before .before .before .before .before .args .sites - 0 ≡ c .before .before .before .before .before .before .before .before .before .before .before .before .args .sites = omega arith in put-then head (put-fits _ _ (take (c .before .before .before .before .before .before .before .before .before .before .before .before .args .sites) (c .before .before .before .before .before .before .before .before .before .before .before .before .args .t4)) (omega (arith, all, head .to, put-length head, c .before .before .before .before .before .before .before .before .before .before .before .before .pre .2)) (simp size at (c .before .before .put2 .ensures)))
 
 pub put-head-spec : {M : Type 1} → statement M
 put-head-spec =

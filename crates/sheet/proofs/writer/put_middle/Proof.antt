@@ -1,10 +1,9 @@
 -- `put_middle` meets its contract: the messages, then the number.
 -- Assumes nothing.
-use native.Mathlib.Omega.{arith}
-use lib.ListN.{length}
 use mathlib.Core.List.{[], _∷_}
+use native.Mathlib.Omega.{arith}
 use Rattle.text.proofs.TextLaws.{put-fits, put-length, put-then}
-use Rattle.sheet.specs.Write.{fourBytes}
+use Rattle.sheet.specs.Write.{fourBytes, middleBytes}
 use borrow.Author.Needs.{needs}
 use Rattle.sheet.proofs.writer.put_middle.Statement.{statement}
 use Rattle.sheet.proofs.writer.put_middle.Tie as tie
@@ -22,7 +21,7 @@ same-length : tie.Need-same-length
 same-length c = search needs
 
 returns : tie.Need-returns
-unfolding fourBytes
+unfolding middleBytes fourBytes
 returns c = put-then (c .before .before .before .before .before .before .before .put-four .ensures) (put-fits _ _ (c .before .before .before .before .before .before .before .before .before .before .args .moves ∷ []) (omega (arith, c .before .before .before .before .before .before .before .put-four .ensures .to, put-length (c .before .before .before .before .before .before .before .put-four .ensures), c .before .before .before .before .before .before .before .before .before .before .pre)) (c .before .before .put .ensures))
 
 pub put-middle-spec : {M : Type 1} → statement M

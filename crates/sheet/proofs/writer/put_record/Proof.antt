@@ -1,16 +1,13 @@
 -- `put_record` meets its contract: piece after piece.
 -- Assumes nothing.
-use Prim.Native.Nat.{ℕ, _+_, _-_, _*_, _/_, _%_, _≤_}
-use mathlib.Core.List.{List, [], _∷_}
-use mathlib.Core.Path.{_≡_, sym, ap, subst}
+use Prim.Native.Nat.{_-_}
 use native.Mathlib.Omega.{arith}
-use lib.ListN.{length, take}
+use lib.ListN.{take}
 use lib.Seq.{length-take-le}
-use Rattle.text.proofs.TextLaws.{put-as}
-use Rattle.text.proofs.Putting.{begin, next, fits-next, ended, length-mapped}
-use Rattle.sheet.specs.Write.{fourBytes, bodyOf, recordOf}
+use Rattle.text.proofs.Putting.{next, fits-next, length-mapped}
+use Rattle.sheet.specs.Write.{fourBytes, middleBytes, recordOf}
 use Rattle.sheet.specs.RoundTrip.{Shaped}
-use Rattle.sheet.proofs.WriteLaws.{sized, pieces, pieces-are, transitions-length}
+use Rattle.sheet.proofs.WriteLaws.{sized, transitions-length, headed, recorded}
 use borrow.Author.Needs.{needs}
 use Rattle.sheet.proofs.writer.put_record.Statement.{statement}
 use Rattle.sheet.proofs.writer.put_record.Tie as tie
@@ -20,30 +17,26 @@ unfolding recordOf
 sub-put-head c = omega (arith, c .before .before .before .before .before .pre .1)
 
 put-head-requires : tie.Need-put-head-requires
-unfolding recordOf
 put-head-requires c κs = let shaped : Shaped (c .before .before .before .before .before .args .sheet) = record { counts = search needs; marks = search needs; transitions = search (needs, length-mapped) } in let z = sized (c .before .before .before .before .before .args .sheet) shaped (c .before .before .before .before .before .pre .0) in (omega (arith, z .long, z .four, z .most, z .states, c .before .before .before .before .before .pre .1), z .four, omega (arith, z .long, c .before .before .before .before .before .pre .1, c .before .before .before .before .before .pre .2))
 
 put-marks-requires : tie.Need-put-marks-requires
-unfolding recordOf
-put-marks-requires c κs = let shaped : Shaped (c .before .before .before .before .before .before .before .before .before .args .sheet) = record { counts = search needs; marks = search needs; transitions = search (needs, length-mapped) } in let is : length (bodyOf (c .before .before .before .before .before .before .before .before .before .args .sheet)) ≡ c .before .before .before .before .before .before .before .before .before .args .size - 2 = omega (arith, c .before .before .before .before .before .before .before .before .before .pre .1) in let g0 = begin (c .before .before .before .before .before .before .before .before .before .args .room .now) 0 (pieces (c .before .before .before .before .before .before .before .before .before .args .sheet)) (subst (λ (x : List ℕ). 0 + length x ≤ length (c .before .before .before .before .before .before .before .before .before .args .room .now)) (sym (pieces-are (c .before .before .before .before .before .before .before .before .before .args .sheet))) (omega (arith, c .before .before .before .before .before .before .before .before .before .pre .1, c .before .before .before .before .before .before .before .before .before .pre .2))) in let g1 = next g0 (put-as (c .before .before .before .put-head .ensures) (ap (λ (n : ℕ). n / 256 ∷ n % 256 ∷ 1 ∷ c .before .before .before .before .before .before .before .before .before .args .sheet .sites ∷ take (c .before .before .before .before .before .before .before .before .before .args .sheet .sites) (c .before .before .before .before .before .before .before .before .before .args .sheet .counts)) (sym is))) in (sized (c .before .before .before .before .before .before .before .before .before .args .sheet) shaped (c .before .before .before .before .before .before .before .before .before .pre .0) .few, fits-next g1)
+put-marks-requires c κs = let shaped : Shaped (c .before .before .before .before .before .before .before .before .before .args .sheet) = record { counts = search needs; marks = search needs; transitions = search (needs, length-mapped) } in (sized (c .before .before .before .before .before .before .before .before .before .args .sheet) shaped (c .before .before .before .before .before .before .before .before .before .pre .0) .few, fits-next (headed (c .before .before .before .before .before .before .before .before .before .args .sheet) (c .before .before .before .before .before .before .before .before .before .args .room .now) (c .before .before .before .before .before .before .before .before .before .args .size) (c .before .before .before .before .before .before .before .before .before .pre .1) (c .before .before .before .before .before .before .before .before .before .pre .2) (c .before .before .before .put-head .ensures)))
 
 cast-put-middle : tie.Need-cast-put-middle
 cast-put-middle c = let shaped : Shaped (c .before .before .before .before .before .before .before .before .before .before .before .before .before .before .args .sheet) = record { counts = search needs; marks = search needs; transitions = search (needs, length-mapped) } in omega (arith, sized (c .before .before .before .before .before .before .before .before .before .before .before .before .before .before .args .sheet) shaped (c .before .before .before .before .before .before .before .before .before .before .before .before .before .before .pre .0) .most)
 
 put-middle-requires : tie.Need-put-middle-requires
-unfolding recordOf fourBytes
-put-middle-requires c κs = let is : length (bodyOf (c .before .before .before .before .before .before .before .before .before .before .before .before .before .before .args .sheet)) ≡ c .before .before .before .before .before .before .before .before .before .before .before .before .before .before .args .size - 2 = omega (arith, c .before .before .before .before .before .before .before .before .before .before .before .before .before .before .pre .1) in let g0 = begin (c .before .before .before .before .before .before .before .before .before .before .before .before .before .before .args .room .now) 0 (pieces (c .before .before .before .before .before .before .before .before .before .before .before .before .before .before .args .sheet)) (subst (λ (x : List ℕ). 0 + length x ≤ length (c .before .before .before .before .before .before .before .before .before .before .before .before .before .before .args .room .now)) (sym (pieces-are (c .before .before .before .before .before .before .before .before .before .before .before .before .before .before .args .sheet))) (omega (arith, c .before .before .before .before .before .before .before .before .before .before .before .before .before .before .pre .1, c .before .before .before .before .before .before .before .before .before .before .before .before .before .before .pre .2))) in let g1 = next g0 (put-as (c .before .before .before .before .before .before .before .before .put-head .ensures) (ap (λ (n : ℕ). n / 256 ∷ n % 256 ∷ 1 ∷ c .before .before .before .before .before .before .before .before .before .before .before .before .before .before .args .sheet .sites ∷ take (c .before .before .before .before .before .before .before .before .before .before .before .before .before .before .args .sheet .sites) (c .before .before .before .before .before .before .before .before .before .before .before .before .before .before .args .sheet .counts)) (sym is))) in let g2 = next g1 (c .before .before .before .before .put-marks .ensures) in fits-next g2
+unfolding middleBytes fourBytes
+put-middle-requires c κs = fits-next (next (headed (c .before .before .before .before .before .before .before .before .before .before .before .before .before .before .args .sheet) (c .before .before .before .before .before .before .before .before .before .before .before .before .before .before .args .room .now) (c .before .before .before .before .before .before .before .before .before .before .before .before .before .before .args .size) (c .before .before .before .before .before .before .before .before .before .before .before .before .before .before .pre .1) (c .before .before .before .before .before .before .before .before .before .before .before .before .before .before .pre .2) (c .before .before .before .before .before .before .before .before .put-head .ensures)) (c .before .before .before .before .put-marks .ensures))
 
 put-transitions-requires : tie.Need-put-transitions-requires
-unfolding recordOf
-put-transitions-requires c κs = let shaped : Shaped (c .before .before .before .before .before .before .before .before .before .before .before .before .before .before .before .before .before .before .args .sheet) = record { counts = search needs; marks = search needs; transitions = search (needs, length-mapped) } in let z = sized (c .before .before .before .before .before .before .before .before .before .before .before .before .before .before .before .before .before .before .args .sheet) shaped (c .before .before .before .before .before .before .before .before .before .before .before .before .before .before .before .before .before .before .pre .0) in let is : length (bodyOf (c .before .before .before .before .before .before .before .before .before .before .before .before .before .before .before .before .before .before .args .sheet)) ≡ c .before .before .before .before .before .before .before .before .before .before .before .before .before .before .before .before .before .before .args .size - 2 = omega (arith, c .before .before .before .before .before .before .before .before .before .before .before .before .before .before .before .before .before .before .pre .1) in let g0 = begin (c .before .before .before .before .before .before .before .before .before .before .before .before .before .before .before .before .before .before .args .room .now) 0 (pieces (c .before .before .before .before .before .before .before .before .before .before .before .before .before .before .before .before .before .before .args .sheet)) (subst (λ (x : List ℕ). 0 + length x ≤ length (c .before .before .before .before .before .before .before .before .before .before .before .before .before .before .before .before .before .before .args .room .now)) (sym (pieces-are (c .before .before .before .before .before .before .before .before .before .before .before .before .before .before .before .before .before .before .args .sheet))) (omega (arith, c .before .before .before .before .before .before .before .before .before .before .before .before .before .before .before .before .before .before .pre .1, c .before .before .before .before .before .before .before .before .before .before .before .before .before .before .before .before .before .before .pre .2))) in let g1 = next g0 (put-as (c .before .before .before .before .before .before .before .before .before .before .before .before .put-head .ensures) (ap (λ (n : ℕ). n / 256 ∷ n % 256 ∷ 1 ∷ c .before .before .before .before .before .before .before .before .before .before .before .before .before .before .before .before .before .before .args .sheet .sites ∷ take (c .before .before .before .before .before .before .before .before .before .before .before .before .before .before .before .before .before .before .args .sheet .sites) (c .before .before .before .before .before .before .before .before .before .before .before .before .before .before .before .before .before .before .args .sheet .counts)) (sym is))) in let g2 = next g1 (c .before .before .before .before .before .before .before .before .put-marks .ensures) in let g3 = next g2 (c .before .before .before .put-middle .ensures) in (z .most, omega (arith, fits-next g3, transitions-length (take (c .before .before .before .before .before .before .before .before .before .before .before .before .before .before .before .before .before .before .args .sheet .moves) (c .before .before .before .before .before .before .before .before .before .before .before .before .before .before .before .before .before .before .args .sheet .transitions)), length-take-le (c .before .before .before .before .before .before .before .before .before .before .before .before .before .before .before .before .before .before .args .sheet .moves) (c .before .before .before .before .before .before .before .before .before .before .before .before .before .before .before .before .before .before .args .sheet .transitions) (omega (arith, shaped .transitions, z .most))))
+put-transitions-requires c κs = let shaped : Shaped (c .before .before .before .before .before .before .before .before .before .before .before .before .before .before .before .before .before .before .args .sheet) = record { counts = search needs; marks = search needs; transitions = search (needs, length-mapped) } in let z = sized (c .before .before .before .before .before .before .before .before .before .before .before .before .before .before .before .before .before .before .args .sheet) shaped (c .before .before .before .before .before .before .before .before .before .before .before .before .before .before .before .before .before .before .pre .0) in (z .most, omega (arith, fits-next (next (next (headed (c .before .before .before .before .before .before .before .before .before .before .before .before .before .before .before .before .before .before .args .sheet) (c .before .before .before .before .before .before .before .before .before .before .before .before .before .before .before .before .before .before .args .room .now) (c .before .before .before .before .before .before .before .before .before .before .before .before .before .before .before .before .before .before .args .size) (c .before .before .before .before .before .before .before .before .before .before .before .before .before .before .before .before .before .before .pre .1) (c .before .before .before .before .before .before .before .before .before .before .before .before .before .before .before .before .before .before .pre .2) (c .before .before .before .before .before .before .before .before .before .before .before .before .put-head .ensures)) (c .before .before .before .before .before .before .before .before .put-marks .ensures)) (c .before .before .before .put-middle .ensures)), transitions-length (take (c .before .before .before .before .before .before .before .before .before .before .before .before .before .before .before .before .before .before .args .sheet .moves) (c .before .before .before .before .before .before .before .before .before .before .before .before .before .before .before .before .before .before .args .sheet .transitions)), length-take-le (c .before .before .before .before .before .before .before .before .before .before .before .before .before .before .before .before .before .before .args .sheet .moves) (c .before .before .before .before .before .before .before .before .before .before .before .before .before .before .before .before .before .before .args .sheet .transitions) (omega (arith, shaped .transitions, z .most))))
 
 same-length : tie.Need-same-length
 same-length c = search needs
 
 returns : tie.Need-returns
-unfolding recordOf
-returns c = let is : length (bodyOf (c .before .before .before .before .before .before .before .before .before .before .before .before .before .before .before .before .before .before .before .before .before .args .sheet)) ≡ c .before .before .before .before .before .before .before .before .before .before .before .before .before .before .before .before .before .before .before .before .before .args .size - 2 = omega (arith, c .before .before .before .before .before .before .before .before .before .before .before .before .before .before .before .before .before .before .before .before .before .pre .1) in let g0 = begin (c .before .before .before .before .before .before .before .before .before .before .before .before .before .before .before .before .before .before .before .before .before .args .room .now) 0 (pieces (c .before .before .before .before .before .before .before .before .before .before .before .before .before .before .before .before .before .before .before .before .before .args .sheet)) (subst (λ (x : List ℕ). 0 + length x ≤ length (c .before .before .before .before .before .before .before .before .before .before .before .before .before .before .before .before .before .before .before .before .before .args .room .now)) (sym (pieces-are (c .before .before .before .before .before .before .before .before .before .before .before .before .before .before .before .before .before .before .before .before .before .args .sheet))) (omega (arith, c .before .before .before .before .before .before .before .before .before .before .before .before .before .before .before .before .before .before .before .before .before .pre .1, c .before .before .before .before .before .before .before .before .before .before .before .before .before .before .before .before .before .before .before .before .before .pre .2))) in let g1 = next g0 (put-as (c .before .before .before .before .before .before .before .before .before .before .before .before .before .before .before .put-head .ensures) (ap (λ (n : ℕ). n / 256 ∷ n % 256 ∷ 1 ∷ c .before .before .before .before .before .before .before .before .before .before .before .before .before .before .before .before .before .before .before .before .before .args .sheet .sites ∷ take (c .before .before .before .before .before .before .before .before .before .before .before .before .before .before .before .before .before .before .before .before .before .args .sheet .sites) (c .before .before .before .before .before .before .before .before .before .before .before .before .before .before .before .before .before .before .before .before .before .args .sheet .counts)) (sym is))) in let g2 = next g1 (c .before .before .before .before .before .before .before .before .before .before .before .put-marks .ensures) in let g3 = next g2 (c .before .before .before .before .before .before .put-middle .ensures) in put-as (ended (next g3 (c .before .before .put-transitions .ensures))) (pieces-are (c .before .before .before .before .before .before .before .before .before .before .before .before .before .before .before .before .before .before .before .before .before .args .sheet))
+returns c = recorded (c .before .before .before .before .before .before .before .before .before .before .before .before .before .before .before .before .before .before .before .before .before .args .sheet) (c .before .before .before .before .before .before .before .before .before .before .before .before .before .before .before .before .before .before .before .before .before .args .room .now) (c .before .before .before .before .before .before .before .before .before .before .before .before .before .before .before .before .before .before .before .before .before .args .size) (c .before .before .before .before .before .before .before .before .before .before .before .before .before .before .before .before .before .before .before .before .before .pre .1) (c .before .before .before .before .before .before .before .before .before .before .before .before .before .before .before .before .before .before .before .before .before .pre .2) (next (next (next (headed (c .before .before .before .before .before .before .before .before .before .before .before .before .before .before .before .before .before .before .before .before .before .args .sheet) (c .before .before .before .before .before .before .before .before .before .before .before .before .before .before .before .before .before .before .before .before .before .args .room .now) (c .before .before .before .before .before .before .before .before .before .before .before .before .before .before .before .before .before .before .before .before .before .args .size) (c .before .before .before .before .before .before .before .before .before .before .before .before .before .before .before .before .before .before .before .before .before .pre .1) (c .before .before .before .before .before .before .before .before .before .before .before .before .before .before .before .before .before .before .before .before .before .pre .2) (c .before .before .before .before .before .before .before .before .before .before .before .before .before .before .before .put-head .ensures)) (c .before .before .before .before .before .before .before .before .before .before .before .put-marks .ensures)) (c .before .before .before .before .before .before .put-middle .ensures)) (c .before .before .put-transitions .ensures))
 
 pub put-record-spec : {M : Type 1} → statement M
 put-record-spec =

@@ -1,11 +1,8 @@
 -- `put_transition` meets its contract: what it goes between, what it reads, what it writes.
 -- Assumes nothing.
-use Prim.Native.Nat.{_+_, _≤_}
 use mathlib.Core.List.{[], _∷_}
 use native.Mathlib.Omega.{arith}
-use lib.ListN.{length}
 use Rattle.text.proofs.TextLaws.{put-fits, put-length, put-then}
-use Rattle.text.specs.Text.{Put}
 use Rattle.sheet.specs.Write.{fourBytes, transitionBytes}
 use borrow.Author.Needs.{needs}
 use Rattle.sheet.proofs.writer.put_transition.Statement.{statement}

@@ -1,12 +1,10 @@
 -- `put_transitions` meets its contract: transition after transition is put.
 -- Assumes nothing.
-use Prim.Native.Nat.{ℕ, _-_, _*_, _≤_}
-use mathlib.Core.List.{List}
-use mathlib.Core.Path.{_≡_, sym, ap, subst, _∙_}
+use Prim.Native.Nat.{_-_}
+use mathlib.Core.Path.{_≡_, sym, ap}
 use native.Mathlib.Omega.{arith}
 use lib.ListN.{length, getD, take}
 use lib.Seq.{length-take-le, getD-take}
-use Rattle.text.specs.Text.{Put}
 use Rattle.text.proofs.TextLaws.{put-length, put-as}
 use Rattle.text.proofs.Putting.{Each, each-begins, each-fits, each-next, each-ended}
 use Rattle.sheet.specs.Record.{noTransition}

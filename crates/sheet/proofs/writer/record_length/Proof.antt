@@ -1,12 +1,12 @@
--- `size_of` meets its contract: the sizes of the parts, summed up.
+-- `record_length` meets its contract: the sizes of the parts, summed up.
 -- Assumes nothing.
 use native.Mathlib.Omega.{arith}
 use Rattle.text.proofs.Putting.{length-mapped}
 use Rattle.sheet.specs.RoundTrip.{Shaped}
 use Rattle.sheet.proofs.WriteLaws.{formed, sites-among, moves-few, sized}
 use borrow.Author.Needs.{needs}
-use Rattle.sheet.proofs.writer.size_of.Statement.{statement}
-use Rattle.sheet.proofs.writer.size_of.Tie as tie
+use Rattle.sheet.proofs.writer.record_length.Statement.{statement}
+use Rattle.sheet.proofs.writer.record_length.Tie as tie
 
 cast-sites : tie.Need-cast-sites
 cast-sites c = search needs
@@ -32,8 +32,8 @@ add-result-4 c = omega (arith, moves-few (c .before .before .before .before .arg
 returns : tie.Need-returns
 returns c = let shaped : Shaped (c .before .before .before .before .args .sheet) = record { counts = search needs; marks = search needs; transitions = search (needs, length-mapped) } in let z = sized (c .before .before .before .before .args .sheet) shaped (c .before .before .before .before .pre) in (omega (arith, z .long, c .before .states-of .ensures .0), omega (arith, c .before .states-of .ensures .0), omega (arith, z .four, z .most, z .states, c .before .states-of .ensures .0))
 
-pub size-of-spec : {M : Type 1} → statement M
-size-of-spec =
+pub record-length-spec : {M : Type 1} → statement M
+record-length-spec =
     tie.close
     (tie.spec
     cast-sites
