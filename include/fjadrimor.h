@@ -41,10 +41,10 @@
  *
  * RING THIS SITE
  * The answer to a step, an event or a journal ends with how many sites the acting one still awaits,
- * and the lowest of them, 0 where it awaits nobody. At "3 awaited" a desk need not ring them all: ring
- * this site. Once its message is heard, the answer to that step names the next to ring. One that has
- * stopped and said nothing is awaited until its stop is noticed (FJ_NOTICE). Both are read off the
- * record after the step, after a step passed over too; a site that follows another awaits nobody, and
+ * and the lowest of them, 0 where it awaits nobody. At "3 awaited" a desk need not ring them all:
+ * ring this site. Once its message is heard, the answer to that step names the next to ring. One that
+ * has stopped and said nothing is awaited until its stop is noticed (FJ_NOTICE). Both are read off
+ * the record after the step, after a step passed over too. A site that follows another awaits nobody;
  * one that has decided awaits nobody either. A refused step has zeros there, which say nothing: keep
  * the answer of the leader's last accepted step; a journal's answer keeps it, if that was the last
  * accepted.
@@ -161,8 +161,8 @@ enum {
 };
 
 /*
- * Where the parts of a step's answer stand. The lowest site awaited is the last byte of the answer to a
- * step, an event or a journal.
+ * Where the parts of a step's answer stand. The lowest site awaited is the last byte of the answer
+ * to a step, an event or a journal.
  */
 enum {
     FJ_STEP_OUTCOME = 0,
@@ -357,8 +357,8 @@ uint8_t fj_record_write(uint8_t k, uint8_t s, uint8_t o, uint8_t m, uint8_t v, u
 /*
  * Rehearses a journal: one byte n, then records. Puts the text at the front of text and returns its
  * length; there is no 0 byte at its end. It has a line for each record: its place, what became of it,
- * the letters of the sites, and, unless it is refused, the lowest site that the acting one awaits, or
- * -. Only the first 65,536 bytes of the input are taken. A journal that cannot be read is told in the
+ * the sites' letters and, unless it is refused, the lowest site that the acting one awaits, or -.
+ * Only the first 65,536 bytes of the input are taken. A journal that cannot be read is told in the
  * text, as docs/RULES.md has it. Returns 0, with nothing written, where text has fewer bytes than
  * FJ_REHEARSAL_ROOM(input_len); 189344 bytes are enough for every input.
  */
