@@ -41,13 +41,17 @@
  *
  * RING THIS SITE
  * The answer to a step, an event or a journal ends with how many sites the acting one still awaits,
- * and the lowest of them, 0 where it awaits nobody. At "3 awaited" a desk need not ring them all:
- * ring this site. Once its message is heard, the answer to that step names the next to ring. One that
- * has stopped and said nothing is awaited until its stop is noticed (FJ_NOTICE). Both are read off
- * the record after the step, after a step passed over too. A site that follows another awaits nobody;
- * one that has decided awaits nobody either. A refused step has zeros there, which say nothing: keep
- * the answer of the leader's last accepted step; a journal's answer keeps it, if that was the last
- * accepted.
+ * and the lowest of them, 0 where it awaits nobody. At "3 awaited" a desk need not ring them all: ring
+ * this site, unless the leader can conclude already (in w site 1 need not wait once it has heard a
+ * No, or knows of a stop without a Yes). Once its message is heard, the answer to that step names
+ * the next to ring. One that has stopped and said nothing is awaited until its stop is noticed
+ * (FJ_NOTICE). Both are read off the record after the step, after a step passed over too; a site
+ * that follows another awaits nobody, and one that has decided awaits nobody either.
+ *
+ * The zeros of a refused step, of a follower's step and of a stop say nothing of the leader: keep
+ * the answer to the leader's last accepted step, until the leader stops; the next one to keep is the
+ * answer to FJ_TAKE_OVER. The answer to a journal is that of its last accepted event, whichever
+ * site's it was: where the desk must know, step the journal event by event.
  */
 #ifndef FJADRIMOR_H
 #define FJADRIMOR_H
