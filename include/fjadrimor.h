@@ -32,20 +32,26 @@
  * stopped (FJ_NOTICE); one that has stopped stays stopped. Never report a site that may still run,
  * and deliver each message at most once: otherwise nothing is promised.
  *
- * RING THIS SITE
- * Every answer ends with how many sites the acting one still awaits, and the lowest of them, 0 where
- * it awaits nobody. At "3 awaited" a desk need not ring them all: ring this site. Once its message is
- * heard, the answer to that step names the next to ring. One that has stopped and said nothing is
- * awaited until its stop is noticed (FJ_NOTICE). Both are read off the record after the step, one
- * that is passed over too; a site that follows another or has decided awaits nobody. A refused step
- * has zeros there, which say nothing: keep the answer of the last one that was accepted.
- *
  * A refused step has changed nothing, and nothing is to be sent. FJ_CONFLICT or FJ_WRONG_NAMES
  * means a message or a notice that the protocol cannot have sent, FJ_NOT_SOUND that the bytes are
  * no record of a site: do not post, and call a person.
  *
  * examples/close.c is that loop. The promise that this rests on is in docs/PROOF.md; what it asks of
  * a ledger, and what goes wrong otherwise, in docs/EMBEDDING.md.
+ *
+ * RING THIS SITE
+ * The answer to a step, an event or a journal ends with how many sites the acting one still awaits,
+ * and the lowest of them, 0 where it awaits nobody. At "3 awaited" a desk need not ring them all: ring
+ * this site, unless the leader can conclude already (in w site 1 need not wait once it has heard a
+ * No, or knows of a stop without a Yes). Once its message is heard, the answer to that step names
+ * the next to ring. One that has stopped and said nothing is awaited until its stop is noticed
+ * (FJ_NOTICE). Both are read off the record after the step, after a step passed over too; a site
+ * that follows another awaits nobody, and one that has decided awaits nobody either.
+ *
+ * The zeros of a refused step, of a follower's step and of a stop say nothing of the leader: keep
+ * the answer to the leader's last accepted step, until the leader stops; the next one to keep is the
+ * answer to FJ_TAKE_OVER. The answer to a journal is that of its last accepted event, whichever
+ * site's it was: where the desk must know, step the journal event by event.
  */
 #ifndef FJADRIMOR_H
 #define FJADRIMOR_H
@@ -158,7 +164,10 @@ enum {
     FJ_SITE_ACKED = 7
 };
 
-/* Where the parts of a step's answer stand. The lowest site awaited is the last of every answer. */
+/*
+ * Where the parts of a step's answer stand. The lowest site awaited is the last byte of the answer
+ * to a step, an event or a journal.
+ */
 enum {
     FJ_STEP_OUTCOME = 0,
     FJ_STEP_KIND = 1,
@@ -352,7 +361,7 @@ uint8_t fj_record_write(uint8_t k, uint8_t s, uint8_t o, uint8_t m, uint8_t v, u
 /*
  * Rehearses a journal: one byte n, then records. Puts the text at the front of text and returns its
  * length; there is no 0 byte at its end. It has a line for each record: its place, what became of it,
- * the letters of the sites, and, unless it is refused, the lowest site that the acting one awaits.
+ * the sites' letters and, unless it is refused, the lowest site that the acting one awaits, or -.
  * Only the first 65,536 bytes of the input are taken. A journal that cannot be read is told in the
  * text, as docs/RULES.md has it. Returns 0, with nothing written, where text has fewer bytes than
  * FJ_REHEARSAL_ROOM(input_len); 189344 bytes are enough for every input.

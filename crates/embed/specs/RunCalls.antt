@@ -23,8 +23,8 @@ freshCall n l = cond (eqb (length l) runSize) (leaves (numberOf (freshOf n .outc
 -- ---- `fj_run_event`
 
 -- the answer takes so many bytes of its room
-abbrev pub eventAnswer : ℕ
-eventAnswer = 4
+abbrev pub runAnswer : ℕ
+runAnswer = 4
 
 -- outcome, messages written, how many sites are awaited, and the lowest of them
 unfoldable pub ranBytes : Ran → List ℕ
@@ -32,11 +32,11 @@ ranBytes a = outcomeByte (a .outcome) ∷ a .counts .written ∷ a .counts .awai
 
 -- a refusal before any event: outcome 2 and zeros
 abbrev pub noEvent : ℕ → List ℕ → List ℕ → LeftBoth
-noEvent g run room = leavesBoth g run (2 ∷ 0 ∷ 0 ∷ 0 ∷ drop eventAnswer room)
+noEvent g run room = leavesBoth g run (2 ∷ 0 ∷ 0 ∷ 0 ∷ drop runAnswer room)
 
 -- an event's answer, and the run's bytes as it leaves them
 abbrev pub ranLeaves : Ran → List ℕ → List ℕ → LeftBoth
-ranLeaves a run room = called (a .outcome) run (runBytes (a .run)) (ranBytes a ++ drop eventAnswer room)
+ranLeaves a run room = called (a .outcome) run (runBytes (a .run)) (ranBytes a ++ drop runAnswer room)
 
 -- what the fields come to: the event that they tell happens to the run, or their ground is the refusal
 abbrev pub happening : Made → List ℕ → List ℕ → LeftBoth
@@ -46,5 +46,5 @@ happening (Bad g) run room = noEvent g run room
 -- 15 comes first, with nothing touched; then 1, 13 and 14 as the fields have it, then the event's own grounds
 unfoldable pub runCall : List ℕ → ℕ → ℕ → ℕ → ℕ → ℕ → ℕ → List ℕ → LeftBoth
 runCall run k s o m v x room =
-    cond (ltb (length room) eventAnswer) (leavesBoth 15 run room)
+    cond (ltb (length room) runAnswer) (leavesBoth 15 run room)
     (cond (isRunBytes run) (happening (eventFrom (body k s o m v x)) run room) (noEvent 1 run room))

@@ -5,7 +5,7 @@ ghost use mathlib.Core.List.{_∷_};
 ghost use Prim.Native.Nat.{_≤_};
 ghost use lib.ListN.{length, drop};
 ghost use Rattle.embed.specs.Bytes.{outcomeByte, leaves, leavesBoth};
-ghost use Rattle.embed.specs.RunCalls.{freshCall, eventAnswer, ranLeaves, happening, runCall};
+ghost use Rattle.embed.specs.RunCalls.{freshCall, runAnswer, ranLeaves, happening, runCall};
 ghost use Rattle.packed.specs.Bytes.{runSize, runIn};
 ghost use Rattle.run.specs.Event.{nextOf};
 ghost use Rattle.fields.specs.Fields.{eventFrom};
@@ -18,7 +18,7 @@ use site::Counts;
 use site::Outcome;
 
 // The bytes of an event's answer.
-const EVENT_ANSWER: usize = 4;
+const RUN_ANSWER: usize = 4;
 
 // The fresh run of n sites. Returns 0 or the refusal.
 #[no_mangle]
@@ -39,16 +39,16 @@ pub extern "C" fn fj_run_fresh(n: u8, run: &mut [u8]) -> u8
 
 // The answer of a refused event. Returns the refusal.
 fn refuse(room: &mut [u8], ground: u8) -> u8
-    requires { ⌜ eventAnswer ≤ length (now room) ⌝ }
-    ensures { λ r. ⌜ (r ≡ ground) × (now (room .exit) ≡ 2 ∷ 0 ∷ 0 ∷ 0 ∷ drop eventAnswer (now (room .entry))) ⌝ }
+    requires { ⌜ runAnswer ≤ length (now room) ⌝ }
+    ensures { λ r. ⌜ (r ≡ ground) × (now (room .exit) ≡ 2 ∷ 0 ∷ 0 ∷ 0 ∷ drop runAnswer (now (room .entry))) ⌝ }
 {
     text::put(room, 0, &[2, 0, 0, 0]);
     ground
 }
 
 fn put_ran(room: &mut [u8], outcome: Outcome, counts: Counts)
-    requires { ⌜ eventAnswer ≤ length (now room) ⌝ }
-    ensures { λ _. ⌜ now (room .exit) ≡ outcomeByte outcome ∷ counts .written ∷ counts .awaited ∷ counts .lowest ∷ drop eventAnswer (now (room .entry)) ⌝ }
+    requires { ⌜ runAnswer ≤ length (now room) ⌝ }
+    ensures { λ _. ⌜ now (room .exit) ≡ outcomeByte outcome ∷ counts .written ∷ counts .awaited ∷ counts .lowest ∷ drop runAnswer (now (room .entry)) ⌝ }
 {
     let row = [
         outcome_byte(outcome),
@@ -61,7 +61,7 @@ fn put_ran(room: &mut [u8], outcome: Outcome, counts: Counts)
 
 // An event of the run whose bytes these are. Returns 0 or the event's own refusal.
 fn take_event(run: &mut [u8], event: Event, answer: &mut [u8]) -> u8
-    requires { ⌜ (length (now run) ≡ runSize) × (eventAnswer ≤ length (now answer)) ⌝ }
+    requires { ⌜ (length (now run) ≡ runSize) × (runAnswer ≤ length (now answer)) ⌝ }
     ensures { λ r. ⌜ leavesBoth r (now (run .exit)) (now (answer .exit)) ≡ ranLeaves (nextOf (runIn (now (run .entry))) event) (now (run .entry)) (now (answer .entry)) ⌝ }
 {
     let ran = packed::read_run(run).happens(event);
@@ -75,7 +75,7 @@ fn take_event(run: &mut [u8], event: Event, answer: &mut [u8]) -> u8
 
 // The event that the fields tell, or 13 or 14. Returns 0 or the refusal.
 fn take_fields(run: &mut [u8], fields: Fields, answer: &mut [u8]) -> u8
-    requires { ⌜ (length (now run) ≡ runSize) × (eventAnswer ≤ length (now answer)) ⌝ }
+    requires { ⌜ (length (now run) ≡ runSize) × (runAnswer ≤ length (now answer)) ⌝ }
     ensures { λ r. ⌜ leavesBoth r (now (run .exit)) (now (answer .exit)) ≡ happening (eventFrom fields) (now (run .entry)) (now (answer .entry)) ⌝ }
 {
     let made = event_of(fields);
@@ -99,7 +99,7 @@ pub extern "C" fn fj_run_event(
 ) -> u8
     ensures { λ r. ⌜ leavesBoth r (now (run .exit)) (now (answer .exit)) ≡ runCall (now (run .entry)) k s o m v x (now (answer .entry)) ⌝ }
 {
-    if answer.len() < EVENT_ANSWER {
+    if answer.len() < RUN_ANSWER {
         return 15;
     }
     if !packed::is_run(run) {

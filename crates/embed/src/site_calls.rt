@@ -5,7 +5,7 @@ ghost use mathlib.Core.List.{_∷_, _++_};
 ghost use Prim.Native.Nat.{_≤_};
 ghost use lib.ListN.{length, drop};
 ghost use Rattle.embed.specs.Bytes.{outcomeByte, leavesBoth};
-ghost use Rattle.embed.specs.SiteCall.{isStep, stepAnswer, answerBytes, stepLeaves, stepping, siteCall};
+ghost use Rattle.embed.specs.SiteCall.{isStep, siteAnswer, answerBytes, stepLeaves, stepping, siteCall};
 ghost use Rattle.packed.specs.Bytes.{siteSize, siteIn};
 ghost use Rattle.site.specs.Step.{stepOf};
 ghost use Rattle.fields.specs.Fields.{eventFrom};
@@ -18,7 +18,7 @@ use site::Outcome;
 use site::Step;
 
 // The bytes of a step's answer.
-const STEP_ANSWER: usize = 6;
+const SITE_ANSWER: usize = 6;
 
 pub(crate) fn outcome_byte(outcome: Outcome) -> u8
     ensures { λ r. ⌜ r ≡ outcomeByte outcome ⌝ }
@@ -39,16 +39,16 @@ fn is_step(k: u8) -> bool
 
 // The answer of a step that was not tried. Returns the refusal.
 fn refuse(room: &mut [u8], ground: u8) -> u8
-    requires { ⌜ stepAnswer ≤ length (now room) ⌝ }
-    ensures { λ r. ⌜ (r ≡ ground) × (now (room .exit) ≡ 2 ∷ 0 ∷ 0 ∷ 0 ∷ 0 ∷ 0 ∷ drop stepAnswer (now (room .entry))) ⌝ }
+    requires { ⌜ siteAnswer ≤ length (now room) ⌝ }
+    ensures { λ r. ⌜ (r ≡ ground) × (now (room .exit) ≡ 2 ∷ 0 ∷ 0 ∷ 0 ∷ 0 ∷ 0 ∷ drop siteAnswer (now (room .entry))) ⌝ }
 {
     text::put(room, 0, &[2, 0, 0, 0, 0, 0]);
     ground
 }
 
 fn put_answer(room: &mut [u8], answer: Answer)
-    requires { ⌜ stepAnswer ≤ length (now room) ⌝ }
-    ensures { λ _. ⌜ now (room .exit) ≡ answerBytes answer ++ drop stepAnswer (now (room .entry)) ⌝ }
+    requires { ⌜ siteAnswer ≤ length (now room) ⌝ }
+    ensures { λ _. ⌜ now (room .exit) ≡ answerBytes answer ++ drop siteAnswer (now (room .entry)) ⌝ }
 {
     let outcome = answer.outcome;
     let row = [
@@ -64,7 +64,7 @@ fn put_answer(room: &mut [u8], answer: Answer)
 
 // A step of the site whose bytes these are. Returns 0 or the step's own refusal.
 fn take_step(site: &mut [u8], step: Step, answer: &mut [u8]) -> u8
-    requires { ⌜ (length (now site) ≡ siteSize) × (stepAnswer ≤ length (now answer)) ⌝ }
+    requires { ⌜ (length (now site) ≡ siteSize) × (siteAnswer ≤ length (now answer)) ⌝ }
     ensures { λ r. ⌜ leavesBoth r (now (site .exit)) (now (answer .exit)) ≡ stepLeaves (stepOf (siteIn (now (site .entry))) step) (now (site .entry)) (now (answer .entry)) ⌝ }
 {
     let given = packed::read_site(site).step(step);
@@ -78,7 +78,7 @@ fn take_step(site: &mut [u8], step: Step, answer: &mut [u8]) -> u8
 
 // The step that the fields tell, or 14. Returns 0 or the refusal.
 fn take_fields(site: &mut [u8], fields: Fields, answer: &mut [u8]) -> u8
-    requires { ⌜ (length (now site) ≡ siteSize) × (stepAnswer ≤ length (now answer)) ⌝ }
+    requires { ⌜ (length (now site) ≡ siteSize) × (siteAnswer ≤ length (now answer)) ⌝ }
     ensures { λ r. ⌜ leavesBoth r (now (site .exit)) (now (answer .exit)) ≡ stepping (eventFrom fields) (now (site .entry)) (now (answer .entry)) ⌝ }
 {
     let made = event_of(fields);
@@ -96,7 +96,7 @@ fn take_fields(site: &mut [u8], fields: Fields, answer: &mut [u8]) -> u8
 pub extern "C" fn fj_site_step(site: &mut [u8], k: u8, o: u8, m: u8, v: u8, answer: &mut [u8]) -> u8
     ensures { λ r. ⌜ leavesBoth r (now (site .exit)) (now (answer .exit)) ≡ siteCall (now (site .entry)) k o m v (now (answer .entry)) ⌝ }
 {
-    if answer.len() < STEP_ANSWER {
+    if answer.len() < SITE_ANSWER {
         return 15;
     }
     if !packed::is_site(site) {

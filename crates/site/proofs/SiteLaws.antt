@@ -1,14 +1,17 @@
 -- Theorems about the site step, for every record and every step.
 -- Assumes nothing.
-use Prim.Native.Nat.{ℕ, _^_, _≤_, _<_}
+use Prim.Native.Nat.{ℕ, zero, suc, _/_, _^_, _≤_, _<_}
 use mathlib.Core.Bool.{Bool, true, false, cond, _&&_, false≢true}
 use mathlib.Core.Path.{_≡_, refl, sym, ap, subst, _∙_}
 use mathlib.Core.Logic.{_⊎_, inl, inr, ⊎-elim, _↔_}
+use native.Mathlib.Nat.{pow-suc}
 use native.Mathlib.Omega.{arith}
 use lib.Dec.{eqb, ltb, lit<, lit≤}
+use lib.Arith.{lt-one}
+use lib.Count.{ones, ones-step}
 use borrow.Author.Tests.{ltb-true}
-use Rattle.sets.specs.Sets.{isSite, has, subset, countOf}
-use Rattle.sets.proofs.SetLaws.{has-minus, has-with, members, count-is}
+use Rattle.sets.specs.Sets.{isSite, has, subset, minus, union, countOf, lowestOf}
+use Rattle.sets.proofs.SetLaws.{has-minus, has-with, members, count-is, lowest-is}
 use Rattle.sets.proofs.Truths.{and-r, or-l, fails, either}
 use Rattle.sets.proofs.SubsetLaws.{others-lt, minus-lt, weight-lt, with-within, subset-none, nobody, count-none}
 use Rattle.site.specs.declared.State.{State}
@@ -19,7 +22,7 @@ use Rattle.site.specs.declared.Step.the-variants.{Conclude}
 use Rattle.site.specs.declared.Outcome.the-variants.{Taken, Passed, Refused}
 use Rattle.site.specs.declared.Done.{Done}
 use Rattle.site.specs.declared.Answer.{Answer}
-use Rattle.site.specs.Site.{soundOf, endsOf, toAll, namesOf, following}
+use Rattle.site.specs.Site.{soundOf, endsOf, toAll, namesOf, following, polls, collects, awaitedOf}
 use Rattle.site.specs.Step.{doneOf, countsOf, answered, stepOf, refusal}
 use Rattle.site.proofs.SiteFacts.{others, SoundSite, lowerKnown, Moves, Follows, Grows, Change, Outward, Concludes, Wrote, Ground, Did, Other, isAnswer, Sends}
 use Rattle.site.proofs.SiteFacts.Moves.{stays, q-w, q-a, w-p, w-a, p-w, p-c}
@@ -273,3 +276,52 @@ ends-need s e f = known-lower s (λ j l h. go j l h (either (has (s .known) j)))
         let w : has (stepOf s Conclude .to) j ≡ true = rw (c .to) (written j l h x) in
         let u : s .number < j = up j (c .kind) (subst (λ (k : ℕ). endsOf k (s .number) j ≡ true) (kind-of s Conclude j w) (f j w)) in
         absurd (omega arith)
+
+-- ---- who is awaited
+
+-- of nobody the lowest is 0
+lowest-none : lowestOf 0 ≡ 0
+unfolding lowestOf
+lowest-none = refl
+
+-- a set whose number or whose lowest is 0 has nobody in it
+ones-nobody : (w m : ℕ) → m < 2 ^ w → ones m ≡ 0 → m ≡ 0
+ones-nobody zero m h e = lt-one h
+ones-nobody (suc w) m h e =
+    let half : m / 2 ≡ 0 = ones-nobody w (m / 2) (omega (arith, pow-suc 2 w)) (omega (arith, ones-step m)) in
+    omega (arith, ones-step m)
+
+count-nobody : (m : ℕ) → m < 2 ^ 8 → countOf m ≡ 0 → m ≡ 0
+unfolding countOf
+count-nobody m h e = ones-nobody 8 m h e
+
+lowest-nobody : (m : ℕ) → m < 2 ^ 8 → lowestOf m ≡ 0 → m ≡ 0
+unfolding has isSite
+lowest-nobody zero h e = refl
+lowest-nobody (suc m) h e = absurd (false≢true (subst (λ (j : ℕ). has (suc m) j ≡ true) e (lowest-is (suc m) (omega arith) h .member)))
+
+awaited-lt : (s : Site) → awaitedOf s < 2 ^ 8
+unfolding awaitedOf toAll
+awaited-lt s = go (polls s) (collects s)
+  where
+    all : toAll s < 2 ^ 8
+    all = minus-lt (others s) (s .known) (others-lt (s .n) (s .number))
+
+    go : (p c : Bool) → cond p (minus (toAll s) (union (s .yes) (s .no))) (cond c (minus (toAll s) (s .acked)) 0) < 2 ^ 8
+    go true c = minus-lt (toAll s) (union (s .yes) (s .no)) all
+    go false true = minus-lt (toAll s) (s .acked) all
+    go false false = lit< tt
+
+same-nobody : (s : Site) → countOf (awaitedOf s) ≡ 0 ↔ lowestOf (awaitedOf s) ≡ 0
+same-nobody s =
+    (λ e. ap lowestOf (count-nobody (awaitedOf s) (awaited-lt s) e) ∙ lowest-none, λ e. ap countOf (lowest-nobody (awaitedOf s) (awaited-lt s) e) ∙ count-none)
+
+-- "the lowest awaited site besides the number, 0 when none is awaited" (02, Ask 4): the lowest is 0 exactly where the number is
+pub lowest-with-number : (s : Site) (t : Step) → stepOf s t .counts .awaited ≡ 0 ↔ stepOf s t .counts .lowest ≡ 0
+unfolding stepOf answered
+lowest-with-number s t = go (did s t)
+  where
+    go : {d : Done} → Did s t d → countsOf (d .outcome) (d .site) (d .to) .awaited ≡ 0 ↔ countsOf (d .outcome) (d .site) (d .to) .lowest ≡ 0
+    go (refuses g) = (λ e. refl, λ e. refl)
+    go {d} (passes f h) = same-nobody (d .site)
+    go {d} (takes f c w) = same-nobody (d .site)

@@ -46,7 +46,7 @@ ruleOf s Conclude = concludeOf s
 unfoldable pub doneOf : Site → Step → Done
 doneOf s t = cond (soundOf s) (cond (namesOf s t) (ruleOf s t) (refused s 2)) (refused s 1)
 
--- so many messages written, and nobody awaited: then "0 when none is awaited" (02, Ask 4) stands for the lowest
+-- so many messages are written and nobody is awaited. The lowest is then 0: "0 when none is awaited" (02, Ask 4)
 abbrev pub noneAwaited : ℕ → Counts
 noneAwaited m = record { written = m; awaited = 0; lowest = 0 }
 
@@ -54,9 +54,9 @@ noneAwaited m = record { written = m; awaited = 0; lowest = 0 }
 abbrev pub none : Counts
 none = noneAwaited 0
 
--- "A step reports the number of messages written, counted in the set of receivers, and the number of sites still awaited",
--- of the record as it then is; "the lowest awaited site besides the number, 0 when none is awaited" (02, Ask 4), of the same set.
--- A refusal reports zeros
+-- "A step reports the number of messages written, counted in the set of receivers, and the number of sites still awaited":
+-- these are the ones that the record awaits after the step. The answer carries "the lowest awaited site besides the number, 0 when none is
+-- awaited" (02, Ask 4): number and lowest are taken of the same set
 abbrev pub counted : Site → ℕ → Counts
 counted s to = record { written = countOf to; awaited = countOf (awaitedOf s); lowest = lowestOf (awaitedOf s) }
 
@@ -67,6 +67,7 @@ numberOf Taken = 0
 numberOf Passed = 0
 numberOf (Refused g) = g
 
+-- what is reported at each outcome; a refusal reports zeros
 abbrev pub countsOf : Outcome → Site → ℕ → Counts
 countsOf Taken s to = counted s to
 countsOf Passed s to = counted s to

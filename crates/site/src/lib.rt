@@ -61,7 +61,7 @@ pub struct Done {
     pub to: u8,
 }
 
-// What a step reports: messages written, how many sites are still awaited, and the lowest of these, 0 where none is.
+// What a step reports: how many messages are written, how many sites are still awaited, and the lowest of these, 0 where nobody is.
 pub struct Counts {
     pub written: u8,
     pub awaited: u8,
@@ -644,7 +644,7 @@ fn kind_of(kind: u8, to: u8) -> u8
     kind
 }
 
-// Messages written, how many sites are awaited and the lowest; a refusal reports none.
+// What is reported at each outcome. A refusal reports zeros.
 fn counts_of(outcome: Outcome, site: Site, to: u8) -> Counts
     ensures { λ r. ⌜ r ≡ countsOf outcome site to ⌝ }
 {
@@ -659,6 +659,7 @@ fn counts_of(outcome: Outcome, site: Site, to: u8) -> Counts
     }
 }
 
+// The messages to these receivers, and the sites that this record awaits: how many, and the lowest.
 fn counted(site: Site, to: u8) -> Counts
     ensures { λ r. ⌜ r ≡ counted site to ⌝ }
 {

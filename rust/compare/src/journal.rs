@@ -35,7 +35,8 @@ pub fn compare(first: Journaling, second: Journaling, count: u64) -> Tally {
         let text = rehearse(&mut tally, [first, second], &mut random, &journal);
         text.lines().for_each(|line| last_field(&mut lowest, line));
     }
-    // In a run from fresh a leader knows every lower site to have stopped.
+    // In a run from fresh a leader knows every lower site to have stopped, and site 1 passes nothing
+    // over while it waits.
     let [taken, passed] = OUTCOMES;
     lowest.look(&mut tally, &[(taken, 2..=8), (passed, 3..=8)]);
     tally

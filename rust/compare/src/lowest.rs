@@ -27,7 +27,8 @@ impl Lowest {
         }
     }
 
-    /// Prints what was met. In answers of each sort these sites must be, and answers that name none.
+    /// Prints what was met. Answers of each sort must have named just these sites, all that can be the
+    /// lowest there, and some must have named none.
     pub fn look(&self, tally: &mut Tally, expected: &[(&'static str, RangeInclusive<u8>)]) {
         for (sort, sites) in expected {
             let count = |lowest: u8| self.0.get(&(*sort, lowest)).copied().unwrap_or_default();

@@ -6,7 +6,7 @@ use crate::journal::Journal;
 use crate::notation::{record_at, why_bad};
 use crate::reasons::reason;
 use crate::standing::letters;
-use fjadrimor::{Day, Event, Refusal, Run};
+use fjadrimor::{Day, Event, Refusal, Run, Step};
 
 /// A journal whose records were handed over to a fresh run.
 pub struct HandedOver<'a> {
@@ -52,11 +52,16 @@ impl HandedOver<'_> {
     }
 
     /// How many sites the acting site of the last accepted event awaits, where there are any, and
-    /// which of them to ring.
+    /// which of them to ring, unless it can conclude without them.
     fn awaited(&self) -> Option<String> {
         let (awaited, lowest) = (self.day.awaited, self.day.lowest?);
         let [_, site, ..] = record_at(&self.journal.bytes, self.day.accepted).ok()?;
-        Some(format!("sites that site {site} still awaits: {awaited}; ring site {lowest}"))
+        let conclude = Event::Act { site, step: Step::Conclude };
+        let advice = match Run::clone(&self.run).happens(conclude) {
+            Ok(_) => "it can conclude without them".to_string(),
+            Err(_) => format!("ring site {lowest}"),
+        };
+        Some(format!("sites that site {site} still awaits: {awaited}; {advice}"))
     }
 
     /// Where the call ended, and why.

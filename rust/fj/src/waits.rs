@@ -8,8 +8,8 @@ pub struct Awaited {
     pub from: Sites,
 }
 
-/// What a leader still awaits before it can conclude, if anything. The library tells the number of
-/// these sites, and the lowest.
+/// What a leader has not heard yet, if anything: one that cannot conclude waits for all of it. The
+/// library tells the number of these sites, and the lowest.
 pub fn awaited(site: Site) -> Option<Awaited> {
     let (answer, heard) = match (site.state(), site.number()) {
         _ if site.leader() != site.number() => return None,

@@ -1,9 +1,11 @@
 //! The calls of the C interface as safe functions on slices, and the one place that declares them.
 //! A lent slice is passed as its address and its length. The types of this crate stand on these.
 
-/// How many bytes of its room the answer of a site step takes, of an event, and of a day's journal.
+/// How many bytes of its room the answer to a site step takes.
 pub const SITE_ANSWER: usize = 6;
+/// How many the answer to an event takes.
 pub const RUN_ANSWER: usize = 4;
+/// How many the answer to a day's journal takes.
 pub const DAY_ANSWER: usize = 26;
 
 /// The calls as C has them, for whoever holds addresses and not slices: a null pointer with length 0,

@@ -31,7 +31,8 @@
 //! The package `ledgers` beside this one is a whole program of that kind, with sockets and files.
 //!
 //! Every answer says how many sites the acting one still awaits, and names the lowest of them. A desk
-//! that is asked why nothing happens rings that one, and after its answer the next:
+//! that is asked why nothing happens rings that one, unless the site can conclude, and after its
+//! answer the next:
 //!
 //! ```
 //! use fjadrimor::{Kind, Site, Step, Vote};

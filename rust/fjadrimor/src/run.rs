@@ -19,7 +19,7 @@ pub struct Ran {
     pub written: u8,
     /// The number of sites that the acting one still waits for; 0 after a stop.
     pub awaited: u8,
-    /// The lowest of these, the one to ring; none where it waits for nobody.
+    /// The lowest of these, the one to ring; none where it waits for nobody, and after a stop.
     pub lowest: Option<u8>,
 }
 

@@ -1,6 +1,6 @@
 //! A run of up to eight sites, with the network as sets of receivers by kind and sender.
 
-use super::site::{bit, first, Done, Site, State, Step};
+use super::site::{bit, first, Awaited, Done, Site, State, Step};
 
 pub const LENGTH: usize = 138;
 
@@ -20,12 +20,11 @@ pub enum Event {
     StopDuring(Step, u8),
 }
 
-/// Whether an accepted event was passed over, the messages written, how many sites are awaited and
-/// the lowest of them.
+/// Whether an accepted event was passed over, the messages written, and who is awaited.
 pub struct Reply {
     pub passed: bool,
     pub written: u8,
-    pub awaited: [u8; 2],
+    pub awaited: Awaited,
 }
 
 /// The receivers that 01 allows to a kind of message from a sender.
@@ -190,7 +189,7 @@ impl Run {
             Event::Stop if self.stopped & bit(s) != 0 => Err(3),
             Event::Stop => {
                 self.stop(s);
-                Ok(Reply { passed: false, written: 0, awaited: [0, 0] })
+                Ok(Reply { passed: false, written: 0, awaited: Awaited::default() })
             }
             Event::StopDuring(step, leaving) => {
                 let done = self.step(s, step)?;
@@ -198,7 +197,7 @@ impl Run {
                 self.send(done.kind, s, receivers);
                 self.stop(s);
                 let written = receivers.count_ones() as u8;
-                Ok(Reply { passed: false, written, awaited: [0, 0] })
+                Ok(Reply { passed: false, written, awaited: Awaited::default() })
             }
         }
     }
@@ -251,8 +250,8 @@ pub fn run_event(
     };
     match happened(run, [k, s, o, m, v, x]) {
         Ok(reply) => {
-            let [awaited, lowest] = reply.awaited;
-            *answer = [reply.passed as u8, reply.written, awaited, lowest];
+            let Awaited { number, lowest } = reply.awaited;
+            *answer = [reply.passed as u8, reply.written, number, lowest];
             0
         }
         Err(ground) => {

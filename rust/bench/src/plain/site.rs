@@ -43,6 +43,13 @@ pub enum Step {
     Conclude,
 }
 
+/// How many sites are awaited, and the lowest of them; both 0 for none.
+#[derive(Clone, Copy, Default)]
+pub struct Awaited {
+    pub number: u8,
+    pub lowest: u8,
+}
+
 /// An accepted step: the new record, whether it was passed over, what was written to whom.
 pub struct Done {
     pub site: Site,
@@ -130,15 +137,14 @@ impl Site {
         self.others() & !self.known
     }
 
-    /// How many sites are awaited, and the lowest of them, 0 for none.
-    pub fn awaited(&self) -> [u8; 2] {
+    pub fn awaited(&self) -> Awaited {
         let awaited: u8 = match self.state {
             State::W if self.number == 1 => self.all() & !(self.yes | self.no),
             State::W | State::P if self.leads() => self.all() & !self.acked,
             _ => 0,
         };
         let lowest = if awaited == 0 { 0 } else { awaited.trailing_zeros() as u8 + 1 };
-        [awaited.count_ones() as u8, lowest]
+        Awaited { number: awaited.count_ones() as u8, lowest }
     }
 
     /// Goes to a state and writes one kind of message to a set of sites.
@@ -315,8 +321,8 @@ pub fn site_step(site: &mut [u8], k: u8, o: u8, m: u8, v: u8, answer: &mut [u8])
         Ok(done) => {
             site.copy_from_slice(&done.site.to_bytes());
             let written = done.receivers.count_ones() as u8;
-            let [awaited, lowest] = done.site.awaited();
-            *answer = [done.passed as u8, done.kind, done.receivers, written, awaited, lowest];
+            let Awaited { number, lowest } = done.site.awaited();
+            *answer = [done.passed as u8, done.kind, done.receivers, written, number, lowest];
             0
         }
         Err(ground) => {

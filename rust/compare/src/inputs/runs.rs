@@ -68,7 +68,8 @@ pub fn unordered_run(random: &mut Random, n: u8) -> Vec<u8> {
 }
 
 /// A sound run in which some site leads and has heard from all below another one: that is then the
-/// lowest awaited, if it is not known to have stopped. Only the leader has messages to come.
+/// lowest awaited, unless it is the leader itself, is known to have stopped, or its No was heard. Only
+/// the leader has messages to come.
 pub fn waiting_run(random: &mut Random, n: u8) -> Vec<u8> {
     let mut run = sound_run(random, n);
     let (leader, lowest) = (random.within(1, n), random.within(1, n));

@@ -54,9 +54,9 @@ fn without_a_number_of_sites() {
 
 /// "Per record: its place, `taken` (any accepted stop too), `passed` or `refused N`, and a letter per
 /// site, upper case if stopped. Last: events accepted, messages written." A refused event has a line
-/// with letters, and the rehearsal goes on; passed ones and stops are accepted. 02, Ask 4: "the line
-/// for a taken or passed event gains a final field, the lowest site awaited by the acting site after
-/// the event, or `-`; it is `-` after a stop."
+/// with letters, and the rehearsal goes on; passed ones and stops are accepted. 02, Ask 4: "The
+/// rehearsal line for a taken or passed event gains a final field, the lowest site awaited by the
+/// acting site after the event, or `-`; it is `-` after a stop."
 #[test]
 fn every_word() {
     let events = [

@@ -55,7 +55,10 @@ impl Run {
 
     /// Whom a site awaits; a stopped one awaits nobody.
     fn awaits(&self, site: u8) -> Option<Sites> {
-        let record = self.record(site).try_into().ok().filter(|_| !self.stopped(site))?;
+        if self.stopped(site) {
+            return None;
+        }
+        let record = self.record(site).try_into().ok()?;
         awaited(Site::from_bytes(record).ok()?).map(|awaited| awaited.from)
     }
 

@@ -33,6 +33,17 @@ fn one_record_too_early_ends_it() {
     assert_eq!(day(&["--plain"], "one-record-early"), came(1, "4 4 36 1 3 5\n", &wrong));
 }
 
+/// Site 1 that has heard a No needs nobody rung.
+#[test]
+fn a_site_that_can_conclude_rings_nobody() {
+    let text = "sites 5\nbegin 1 yes\ndeliver 2 start from 1 no\ndeliver 1 no from 2\n";
+    let told = "events accepted: 3, messages written: 5\n\
+                states of the sites: waqqq\n\
+                sites that site 1 still awaits: 3; it can conclude without them\n\
+                ended with no record left, at byte 27 of the records\n";
+    assert_eq!(fj(&["day", "-"], text.as_bytes()), came(0, told, ""));
+}
+
 /// A rehearsal would name the bad record first; the call does not come to it.
 #[test]
 fn the_first_of_a_refused_and_a_bad_record_ends_it() {
