@@ -29,8 +29,8 @@ fn a_crowded_sheet_is_accepted_and_fills_a_bucket() {
         let mut full: BTreeMap<usize, u64> = BTreeMap::new();
         let numbers = || words.iter().filter(|&&number| number != 0);
         numbers().for_each(|&number| *full.entry(bucket(number)).or_default() += 1);
-        assert_eq!((ground, numbers().count()), (0, 51 * 64));
-        assert!(full.values().any(|&states| states >= 50), "{full:?}");
+        assert_eq!((ground, numbers().count()), (0, 45 * 36));
+        assert!(full.values().any(|&states| states >= 44), "{full:?}");
     }
 }
 

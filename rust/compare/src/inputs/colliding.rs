@@ -25,23 +25,24 @@ fn number(state: u64, to: u8, vote: u8, outstanding: u32) -> u64 {
 /// The message that the ways of `crowded` read.
 const ASKED: u32 = 1 << 31;
 
-/// A sheet that is accepted: from its first state site 2 has fifty ways to states of one bucket, and
-/// sites 1 and 3 go through their eight states beside it, 3,264 global states.
+/// A sheet that is accepted: from its first state site 2 has 44 ways to states of one bucket, and once
+/// more the first ten of them, which lead to the end of that bucket. Sites 1 and 3 go through their six
+/// states beside it: 1,620 global states.
 pub fn crowded(random: &mut Random) -> Draft {
-    let mut draft = product(&[8, 1, 8], false);
-    let (mut moves, first) = (Vec::new(), draft.first);
-    let mut chosen = None;
-    while moves.len() < 50 {
+    let mut draft = product(&[6, 1, 6], false);
+    let (mut ways, mut chosen) = (Vec::new(), None);
+    while ways.len() < 44 {
         let (to, vote) = (random.within(1, 7), random.within(0, 1));
-        let writes = random.number() as u32 >> 1 & !0xFFFF;
-        let bucket = bucket(number(0, to, vote, first | writes));
-        let written = |a: &Move| (a.to, a.vote, a.writes) == (to, vote, writes);
-        if *chosen.get_or_insert(bucket) == bucket && !moves.iter().any(written) {
-            moves.push(Move { site: 2, from: 0, to, vote, reads: ASKED, writes });
+        let writes = random.number() as u32 & 0x7FFF_0000;
+        let bucket = bucket(number(0, to, vote, draft.first | writes));
+        let known = |a: &Move| (a.to, a.vote, a.writes) == (to, vote, writes);
+        if *chosen.get_or_insert(bucket) == bucket && !ways.iter().any(known) {
+            ways.push(Move { site: 2, from: 0, to, vote, reads: ASKED, writes });
         }
     }
+    ways.extend_from_within(..10);
+    draft.moves.extend(ways);
     draft.first |= ASKED;
-    draft.moves.extend(moves);
     (draft.counts[1], draft.marks[1]) = (8, vec![0; 8]);
     draft
 }
