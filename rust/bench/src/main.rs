@@ -1,6 +1,7 @@
 //! Times the proved library beside plain Rust, and the two programs on their worst inputs.
 
 use bench::row::{print_head, Row};
+use bench::sheet::with_a_table;
 use bench::side::Side;
 use bench::slowest;
 use compare::tally::Tally;
@@ -13,7 +14,7 @@ const USAGE: &str =
        bench --slowest REHEARSAL SHEETS  times the two programs on the worst inputs known";
 
 /// Every comparison of the two; one that differs ends the bench.
-fn comparisons() -> [Tally; 6] {
+fn comparisons() -> [Tally; 7] {
     let (library, plain) = (Side::Library, Side::Plain);
     [
         compare::site::compare(library.site_step(), plain.site_step(), 100_000),
@@ -21,6 +22,7 @@ fn comparisons() -> [Tally; 6] {
         compare::journal::compare(library.journaling(), plain.journaling(), 1000),
         compare::day::compare(library.days(), plain.days(), 100_000),
         compare::sheet::compare(library.judging(), plain.judging(), 2000),
+        compare::sheet::compare(library.judging(), with_a_table(plain), 500),
         compare::parts::compare(library.writing(), plain.writing(), 10_000),
     ]
 }

@@ -3,6 +3,7 @@
 use crate::plain;
 use crate::row::{Round, Row};
 use crate::side::Side;
+use compare::inputs::colliding::merging;
 use compare::inputs::drafts::{product, Draft, Move};
 use compare::inputs::sheets::{any_case, renamed};
 use compare::inputs::{figures, Random};
@@ -66,11 +67,11 @@ fn any_sheets() -> Vec<Vec<u8>> {
     (0..200).map(|_| any_case(&mut random).bytes).collect()
 }
 
-/// The slowest sheet that a search, at random and by construction, has found. Each site goes step by
+/// As many successors as a search, at random and by construction, has found. Each site goes step by
 /// step through its states, numbered downwards so that later numbers come first, in one way or in
 /// two, of which the second leaves a message behind: 4,070 states. All other transitions are copies
 /// of site 2's only one, which is possible in half of them.
-fn hostile() -> Draft {
+pub fn hostile() -> Draft {
     let ways: [&[u8]; 4] = [&[2, 1, 2, 1, 2, 2], &[1], &[2, 1], &[2, 1, 1, 2]];
     let (mut moves, mut first, mut next) = (Vec::new(), 0, 0);
     let mut message = || {
@@ -96,6 +97,11 @@ fn hostile() -> Draft {
     Draft::new(marks, first, moves)
 }
 
+/// The slowest sheet that a search over thousands of `merging` has found.
+pub fn slowest_of_all() -> Draft {
+    merging(&mut Random::new(837))
+}
+
 /// Sheets that the reader refuses: each ground alone, and each after each other.
 fn refused() -> Vec<Vec<u8>> {
     let cases = faulty(&mut Random::new(8)).into_iter().filter(|case| case.words == 4096);
@@ -104,25 +110,63 @@ fn refused() -> Vec<Vec<u8>> {
     cases.map(|case| case.bytes).filter(|bytes| (21..30).contains(&ground(bytes))).collect()
 }
 
-/// A row of sheets that have so many units each.
-fn judged(
-    name: impl Into<String>,
+/// A row of sheets that have so many units each, by the sides of a program.
+fn judged_by(
+    program: fn(Side) -> Judging,
+    name: String,
     (unit, each): (&'static str, u32),
     rounds: u32,
     sheets: impl Fn() -> Vec<Vec<u8>> + 'static,
 ) -> Row {
     Row::new(name, unit, rounds, move |side: Side| {
-        let (sheets, mut words) = (sheets(), vec![0; 4096]);
+        let (sheets, mut words, program) = (sheets(), vec![0; 4096], program(side));
         let units = each * sheets.len() as u32;
-        Round { units, work: Box::new(move || judge_all(side.judging(), &sheets, &mut words)) }
+        Round { units, work: Box::new(move || judge_all(program, &sheets, &mut words)) }
     })
+}
+
+fn judged(
+    name: &str,
+    units: (&'static str, u32),
+    rounds: u32,
+    sheets: impl Fn() -> Vec<Vec<u8>> + 'static,
+) -> Row {
+    judged_by(Side::judging, name.into(), units, rounds, sheets)
+}
+
+/// Plain Rust with a hash table in memory of its own.
+pub fn with_a_table(side: Side) -> Judging {
+    match side {
+        Side::Library => side.judging(),
+        Side::Plain => Judging { judge: plain::sheet_judge_table, ..side.judging() },
+    }
 }
 
 /// A row of one sheet by the number of its states.
 fn by_states(counts: [u8; 4]) -> Row {
-    let states = counts.iter().map(|&count| u32::from(count)).product();
-    judged(format!("judge-{states}"), ("state", states), 100, move || vec![ordered(counts).bytes()])
+    let states: u32 = counts.iter().map(|&count| u32::from(count)).product();
+    judged(
+        &format!("judge-{states}"),
+        ("state", states),
+        100,
+        move || vec![ordered(counts).bytes()],
+    )
 }
+
+/// A large sheet in some orders: its name, how many states of it are collected, and its bytes.
+type Large = (&'static str, u32, fn() -> Vec<Vec<u8>>);
+
+/// The largest in order, against it and in some order, one with a state too many, and the two sheets
+/// that are slowest for each state.
+const LARGE: [Large; 7] = [
+    ("judge-1024", 1024, || vec![ordered([8, 8, 4, 4]).bytes()]),
+    ("judge-4096", 4096, || vec![largest().bytes()]),
+    ("judge-4096-down", 4096, || vec![against_the_order().bytes()]),
+    ("judge-4096-mixed", 4096, || reordered(&largest())),
+    ("judge-4097-mixed", 4096, || reordered(&product(&[8; 4], true))),
+    ("judge-hostile", 4070, || vec![hostile().bytes()]),
+    ("judge-colliding", 3821, || vec![slowest_of_all().bytes()]),
+];
 
 fn reported(name: &str, sheets: impl Fn() -> Vec<Vec<u8>> + 'static) -> Row {
     Row::new(name, "sheet", 300, move |side: Side| {
@@ -133,19 +177,20 @@ fn reported(name: &str, sheets: impl Fn() -> Vec<Vec<u8>> + 'static) -> Row {
     })
 }
 
-/// Small sheets, sheets of every sort, sheets by the number of their states up to the largest, the
-/// largest in other orders, larger ones, the slowest one known, and such as the reader refuses.
+/// Small sheets, sheets of every sort, large ones, each beside plain Rust of the same method and then
+/// beside plain Rust with a table, and such as the reader refuses.
 pub fn rows() -> Vec<Row> {
     let mut rows = vec![
         judged("judge-figures", ("sheet", 1), 300, figures),
         judged("judge-any-sheet", ("sheet", 1), 30, any_sheets),
     ];
-    rows.extend([[2; 4], [4, 4, 2, 2], [4; 4], [8, 8, 4, 4], [8; 4]].map(by_states));
-    let state = ("state", 4096);
-    rows.push(judged("judge-4096-down", state, 30, || vec![against_the_order().bytes()]));
-    rows.push(judged("judge-4096-mixed", state, 30, || reordered(&largest())));
-    rows.push(judged("judge-4097-mixed", state, 30, || reordered(&product(&[8; 4], true))));
-    rows.push(judged("judge-hostile", ("state", 4070), 30, || vec![hostile().bytes()]));
+    rows.extend([[2; 4], [4, 4, 2, 2], [4; 4]].map(by_states));
+    let of = |(name, states, sheets): Large| judged(name, ("state", states), 30, sheets);
+    let table = |(name, states, sheets): Large| {
+        judged_by(with_a_table, format!("{name}-table"), ("state", states), 30, sheets)
+    };
+    rows.extend(LARGE.map(of));
+    rows.extend(LARGE.map(table));
     rows.push(judged("judge-refused", ("sheet", 1), 30, refused));
     rows.push(reported("report-figures", figures));
     rows

@@ -1,7 +1,8 @@
 //! The two programs on the worst inputs known, each of at most 65,536 bytes.
 
 use crate::journal::FULL;
-use crate::sheet::{against_the_order, largest};
+use crate::sheet::{against_the_order, hostile, largest, slowest_of_all};
+use compare::inputs::colliding::merging;
 use compare::inputs::drafts::{product, Draft, Move};
 use compare::inputs::journals::Journals;
 use compare::inputs::sheets::renamed;
@@ -87,8 +88,8 @@ fn many_paths() -> Draft {
     Draft::new(vec![vec![0; 8]; 2], 3, moves.into_iter().flatten().collect())
 }
 
-/// The largest sheets in every order known, sheets that are refused as late as can be, and as many
-/// bytes as the program takes.
+/// The largest sheets in every order known, sheets whose states collide, sheets that are refused as
+/// late as can be, and as many bytes as the program takes.
 fn sheets() -> Vec<Input> {
     let mut random = Random::new(43);
     let mut full = largest();
@@ -98,6 +99,8 @@ fn sheets() -> Vec<Input> {
         ("4096 states in order".into(), full.bytes()),
         ("4096 states against the order".into(), against_the_order().bytes()),
         ("4097 states in order".into(), over.bytes()),
+        ("many successors".into(), hostile().bytes()),
+        ("colliding states, the worst".into(), slowest_of_all().bytes()),
         ("many messages".into(), many_messages().bytes()),
         ("many paths".into(), many_paths().bytes()),
         ("a sheet and 64,000 bytes more".into(), Draft { pad: 64_000, ..largest() }.bytes()),
@@ -108,6 +111,7 @@ fn sheets() -> Vec<Input> {
         inputs.push((named("4096 states"), renamed(&mut random, &full).bytes()));
         inputs.push((named("4097 states"), renamed(&mut random, &over).bytes()));
         inputs.push((named("many messages"), renamed(&mut random, &many_messages()).bytes()));
+        inputs.push((named("colliding states"), merging(&mut random).bytes()));
     }
     inputs
 }

@@ -1,6 +1,7 @@
 //! The plain implementation against the second program.
 
 use crate::plain;
+use crate::sheet::with_a_table;
 use crate::side::Side;
 use compare::journal::Journaling;
 
@@ -49,6 +50,7 @@ fn sheets_are_the_same() {
     let second =
         Judging { judge: second::report::sheet_judge, report: second::report::sheet_report };
     assert!(compare(PLAIN.judging(), second, 5000).finish());
+    assert!(compare(with_a_table(PLAIN), second, 2000).finish());
 }
 
 #[test]

@@ -13,6 +13,8 @@ pub mod site;
 pub mod tally;
 
 #[cfg(test)]
+mod colliding_tests;
+#[cfg(test)]
 mod figure_tests;
 #[cfg(test)]
 mod obeying_tests;

@@ -2,7 +2,7 @@
 
 use crate::inputs::drafts::Draft;
 use crate::inputs::sheets::{any_case, renamed, Case};
-use crate::inputs::{faults, figures, obeying, pattern, Random};
+use crate::inputs::{colliding, faults, figures, obeying, pattern, Random};
 use crate::tally::Tally;
 use std::collections::BTreeMap;
 
@@ -17,11 +17,6 @@ pub struct Judging {
 pub const OUT: usize = 206;
 pub const ROOM: usize = 3731;
 pub const AMPLE: usize = 1 << 14;
-
-/// What the lent words hold before a call.
-fn words(length: usize) -> Vec<u64> {
-    (0..length as u64).map(|place| !place).collect()
-}
 
 /// A number of sites, and how many of them obey.
 pub type Obeying = (u8, usize);
@@ -39,15 +34,17 @@ struct Comparison {
     second: Judging,
     random: Random,
     tally: Tally,
+    /// What the last call left of the words.
+    left: Vec<u64>,
     /// How many accepted sheets were met, by how many of their sites obey.
     met: BTreeMap<Obeying, u64>,
 }
 
-/// Compares two programs on every pair of faults and every set of obeying sites, then on `count`
-/// sheets of every sort. Prints how many sheets were met by how many of their sites obey.
+/// Compares two programs on every pair of faults, every set of obeying sites and colliding states, then
+/// on `count` sheets of every sort. Prints how many sheets were met by how many of their sites obey.
 pub fn compare(first: Judging, second: Judging, count: u64) -> Tally {
     let (random, tally, met) = (Random::new(6), Tally::default(), BTreeMap::new());
-    let mut comparison = Comparison { first, second, random, tally, met };
+    let mut comparison = Comparison { first, second, random, tally, left: vec![0], met };
     for case in known(&mut Random::new(8)) {
         comparison.look(&case);
     }
@@ -59,10 +56,12 @@ pub fn compare(first: Judging, second: Judging, count: u64) -> Tally {
     comparison.tally
 }
 
-/// Sheets of which it is known what they show: faults, then sets of obeying sites.
+/// Sheets of which it is known what they show: faults, then sets of obeying sites, then states that
+/// collide.
 pub fn known(random: &mut Random) -> Vec<Case> {
     let mut cases = faulty(random);
     cases.extend(obeying::cases(random));
+    cases.extend(colliding::cases(random));
     cases
 }
 
@@ -106,28 +105,46 @@ impl Comparison {
         }
     }
 
+    /// What the lent words hold before a call: a pattern, anything, one number, or what the last call
+    /// left; now and then some thousands more than the case has, if that is enough.
+    fn words(&mut self, case: &Case) -> Vec<u64> {
+        let more = if case.words >= 4096 && self.random.once_in(8) { 4096 } else { 1 };
+        let length = case.words + self.random.below(more) as usize;
+        match self.random.below(4) {
+            0 => (0..length as u64).map(|place| !place).collect(),
+            1 => (0..length).map(|_| self.random.number()).collect(),
+            2 => vec![*self.random.pick(&self.left); length],
+            _ => self.left.iter().copied().cycle().take(length).collect(),
+        }
+    }
+
     fn judge(&mut self, case: &Case, room: usize) {
+        let lent = self.words(case);
         let made = |program: Judging| {
-            let (mut words, mut out) = (words(case.words), pattern(room));
+            let (mut words, mut out) = (lent.clone(), pattern(room));
             let refusal = (program.judge)(&case.bytes, &mut words, &mut out);
             (refusal, out, words)
         };
         let (first, second) = (made(self.first), made(self.second));
-        let described = || format!("judge {:?} words {} room {room}", case.bytes, case.words);
+        let described = || format!("judge {:?} words {} room {room}", case.bytes, lent.len());
         self.tally.note(&first, &second, described);
         if second.0 == 0 {
             *self.met.entry(obeying_in(&second.1)).or_default() += 1;
         }
+        if !second.2.is_empty() {
+            self.left = second.2;
+        }
     }
 
     fn report(&mut self, case: &Case, room: usize) {
+        let lent = self.words(case);
         let made = |program: Judging| {
-            let (mut words, mut text) = (words(case.words), pattern(room));
+            let (mut words, mut text) = (lent.clone(), pattern(room));
             let length = (program.report)(&case.bytes, &mut words, &mut text);
             (length, text, words)
         };
         let (first, second) = (made(self.first), made(self.second));
-        let described = || format!("report {:?} words {} room {room}", case.bytes, case.words);
+        let described = || format!("report {:?} words {} room {room}", case.bytes, lent.len());
         self.tally.note(&first, &second, described);
     }
 

@@ -5,6 +5,7 @@
 mod rows {
     mod days;
     mod deliveries;
+    mod lent_words;
     mod parts;
     mod records;
     mod rehearsals;

@@ -1,9 +1,9 @@
-//! The judge: the reachable numbers kept in ascending order, and what follows from them.
+//! The judge: what follows from the reachable numbers.
 
+use super::collect::{in_a_table, in_words, local, Collect, MOST};
 use super::journal::{push_number, put};
-use super::sheet::{Move, Sheet};
+use super::sheet::Sheet;
 
-const MOST: usize = 4096;
 const OUT: usize = 206;
 
 #[derive(Clone, Copy, Default)]
@@ -26,80 +26,6 @@ pub struct Judgement {
     witness: [u8; 3],
     /// 0 where none is stated.
     tolerance: u8,
-}
-
-/// The transitions of each local state, next to each other.
-struct Index {
-    moves: Vec<Move>,
-    starts: [u8; 33],
-}
-
-impl Index {
-    fn new(sheet: &Sheet) -> Index {
-        let mut moves = sheet.moves.clone();
-        moves.sort_by_key(Move::place);
-        let mut starts = [0; 33];
-        for a in &moves {
-            starts[a.place() + 1] += 1;
-        }
-        for place in 0..32 {
-            starts[place + 1] += starts[place];
-        }
-        Index { moves, starts }
-    }
-
-    /// The transitions of the local states of a global state.
-    fn from(&self, global: u64, sites: u8) -> impl Iterator<Item = &Move> {
-        (0..sites as usize).flat_map(move |site| {
-            let place = 8 * site + local(global, site);
-            &self.moves[self.starts[place] as usize..self.starts[place + 1] as usize]
-        })
-    }
-}
-
-/// The state of a site, counted from 0, in a global state.
-fn local(global: u64, site: usize) -> usize {
-    (global >> (36 + 3 * site) & 7) as usize
-}
-
-/// The global state after a possible transition.
-fn after(global: u64, a: &Move) -> u64 {
-    let outstanding = global as u32 & !a.reads | a.writes;
-    let votes = u64::from(a.vote) << (32 + a.site);
-    let change = u64::from(a.from ^ a.to) << (36 + 3 * a.site);
-    ((global >> 32 << 32 | votes) ^ change) | u64::from(outstanding)
-}
-
-/// Fills `words` with the reachable numbers, ascending; hands back how many there are.
-fn reach(sheet: &Sheet, words: &mut [u64; MOST]) -> Result<usize, u8> {
-    let index = Index::new(sheet);
-    words[0] = u64::from(sheet.first);
-    let mut count = 1;
-    let mut open = vec![words[0]];
-    let mut clash = false;
-    while let Some(global) = open.pop() {
-        let outstanding = global as u32;
-        for a in index.from(global, sheet.sites) {
-            if a.reads & !outstanding != 0 {
-                continue;
-            }
-            clash |= outstanding & !a.reads & a.writes != 0;
-            let next = after(global, a);
-            if let Err(place) = words[..count].binary_search(&next) {
-                if count == MOST {
-                    return Err(30);
-                }
-                words.copy_within(place..count, place + 1);
-                words[place] = next;
-                count += 1;
-                open.push(next);
-            }
-        }
-    }
-    if clash {
-        return Err(31);
-    }
-    Ok(count)
 }
 
 /// What is said of each local state, over the reachable numbers.
@@ -148,10 +74,10 @@ fn finding(mark: u8, reached: bool, committable: bool, set: u32, finals: (u32, u
     Finding { reached, committable, decision, broken, set }
 }
 
-fn judge(bytes: &[u8], words: &mut [u64]) -> Result<Judgement, u8> {
+fn judge(collect: Collect, bytes: &[u8], words: &mut [u64]) -> Result<Judgement, u8> {
     let words = words.first_chunk_mut::<MOST>().ok_or(20)?;
     let sheet = Sheet::from_bytes(bytes)?;
-    let states = match reach(&sheet, words) {
+    let states = match collect(&sheet, words) {
         Ok(states) => states,
         Err(ground) => {
             words.fill(0);
@@ -171,11 +97,20 @@ fn judge(bytes: &[u8], words: &mut [u64]) -> Result<Judgement, u8> {
 
 /// `fj_sheet_judge`.
 pub fn sheet_judge(bytes: &[u8], words: &mut [u64], out: &mut [u8]) -> u8 {
+    judge_by(in_words, bytes, words, out)
+}
+
+/// The same with a hash table in memory of its own.
+pub fn sheet_judge_table(bytes: &[u8], words: &mut [u64], out: &mut [u8]) -> u8 {
+    judge_by(in_a_table, bytes, words, out)
+}
+
+fn judge_by(collect: Collect, bytes: &[u8], words: &mut [u64], out: &mut [u8]) -> u8 {
     let Some(out) = out.first_chunk_mut::<OUT>() else {
         return 15;
     };
     out.fill(0);
-    let judged = match judge(bytes, words) {
+    let judged = match judge(collect, bytes, words) {
         Ok(judged) => judged,
         Err(ground) => return ground,
     };
@@ -262,5 +197,6 @@ pub fn sheet_report(bytes: &[u8], words: &mut [u64], room: &mut [u8]) -> usize {
     if room.len() < LONGEST {
         return 0;
     }
-    put(&judge(bytes, words).map_or_else(refused, |judged| report(&judged)), room)
+    let judged = judge(in_words, bytes, words);
+    put(&judged.map_or_else(refused, |judged| report(&judged)), room)
 }

@@ -1,5 +1,6 @@
 //! Generated inputs, the same in every run: pseudo-random numbers and what is made of them.
 
+pub mod colliding;
 pub mod days;
 pub mod drafts;
 pub mod faults;

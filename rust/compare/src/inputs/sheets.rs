@@ -4,7 +4,7 @@ use super::drafts::{product, Draft, Move};
 use super::{faults, figures, Random};
 
 /// A list of 0..count in a random order.
-fn shuffled(random: &mut Random, count: u8) -> Vec<u8> {
+pub fn shuffled(random: &mut Random, count: u8) -> Vec<u8> {
     let mut list: Vec<u8> = (0..count).collect();
     for place in (1..list.len()).rev() {
         list.swap(place, random.below(place as u64 + 1) as usize);

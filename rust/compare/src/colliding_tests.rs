@@ -1,0 +1,56 @@
+//! The sheets whose states collide do so, in the library's buckets.
+
+use crate::inputs::colliding::{bucket, crowded, merging, BUCKETS};
+use crate::inputs::drafts::Draft;
+use crate::inputs::Random;
+use crate::sheet::OUT;
+use second::report::sheet_judge;
+use std::collections::{BTreeMap, BTreeSet};
+
+/// The ground of a sheet, and the words that the second program leaves.
+fn judged(draft: &Draft) -> (u8, Vec<u64>) {
+    let mut words = vec![0; 4096];
+    let ground = sheet_judge(&draft.bytes(), &mut words, &mut [0; OUT]);
+    (ground, words)
+}
+
+#[test]
+fn the_buckets_are_those_of_the_code() {
+    let code = include_str!("../../../crates/judge/src/words.rt");
+    let last = format!("(b * 2246822519 / {} % {BUCKETS}) as usize", (1u64 << 32) / BUCKETS as u64);
+    assert!(code.contains("(x % 4294967296 + x / 4294967296 * 40503) * 1640531527"));
+    assert!(code.contains("(a ^ (a / 4294967296)) % 4294967296") && code.contains(&last));
+}
+
+#[test]
+fn a_crowded_sheet_is_accepted_and_fills_a_bucket() {
+    for seed in 1..4 {
+        let (ground, words) = judged(&crowded(&mut Random::new(seed)));
+        let mut full: BTreeMap<usize, u64> = BTreeMap::new();
+        let numbers = || words.iter().filter(|&&number| number != 0);
+        numbers().for_each(|&number| *full.entry(bucket(number)).or_default() += 1);
+        assert_eq!((ground, numbers().count()), (0, 45 * 36));
+        assert!(full.values().any(|&states| states >= 44), "{full:?}");
+    }
+}
+
+/// The messages that the moves of a site write.
+fn written(draft: &Draft, site: u8) -> u32 {
+    draft.moves.iter().filter(|a| a.site == site).fold(0, |all, a| all | a.writes)
+}
+
+#[test]
+fn a_merging_sheet_leads_to_few_buckets() {
+    let draft = merging(&mut Random::new(1));
+    assert_eq!((judged(&draft).0, draft.moves.len()), (31, 64));
+    let ways: Vec<_> = draft.moves.iter().filter(|a| a.site == 2).collect();
+    let turn = written(&draft, 1) & !draft.first & !ways[0].reads & !written(&draft, 2);
+    assert_eq!(turn.count_ones(), 1, "what is not written by all");
+    let mut states = BTreeSet::new();
+    for a in &ways {
+        let ends = u64::from(a.vote) << 33 | 6 << 36 | u64::from(a.to) << 39;
+        states.extend([0, turn].map(|turn| ends | u64::from(draft.first | a.writes | turn)));
+    }
+    let buckets: BTreeSet<usize> = states.iter().map(|&number| bucket(number)).collect();
+    assert!(states.len() > 50 && buckets.len() <= 4, "{states:?} in {buckets:?}");
+}
