@@ -51,8 +51,9 @@ pub fn crowded(random: &mut Random) -> Draft {
 const WAYS: [u32; 6] = [2, 4, 4, 4, 4, 6];
 /// The transitions of a sheet.
 const MOVES: usize = 64;
-/// Among how many of the fullest buckets it is chosen.
+/// Among how many of the fullest buckets it is chosen, and how many it leads to at most.
 const FULLEST: usize = 96;
+const MOST_BUCKETS: usize = 16;
 
 /// The messages of `merging`: the one that site 1 reads and writes again, the one by which it asks
 /// site 2, those that its ways leave behind, and the rest.
@@ -85,7 +86,7 @@ impl Messages {
         Messages { again, asked, left, rest: all.collect() }
     }
 
-    /// What a way of site 1 leaves behind for it to go on in turns.
+    /// The message that every other of the last ways of site 1 leaves behind.
     fn turn(&self) -> u32 {
         self.left[WAYS.len() - 1][0]
     }
@@ -126,8 +127,8 @@ impl Messages {
         full
     }
 
-    /// Every way of site 2 that writes all that may be left behind but the message of turns, so that
-    /// it leads all those states to two, if both are in one of these buckets.
+    /// Every way of site 2 that writes all that may be left behind but the message of turns, and so
+    /// leads to two states, if both are in these buckets.
     fn site_2(&self, full: &[(usize, usize)]) -> Vec<Way> {
         let mut place = vec![None; BUCKETS];
         full.iter().enumerate().for_each(|(at, &(bucket, _))| place[bucket] = Some(at));
@@ -144,31 +145,48 @@ impl Messages {
     }
 }
 
-/// The places of few full buckets that hold so many of these ways.
-fn few(full: &[(usize, usize)], ways: &[Way], wanted: usize) -> Vec<usize> {
-    let mut pairs = vec![[0; FULLEST]; FULLEST];
+/// How many ways lead to the buckets at each two places.
+type Meetings = Vec<[usize; FULLEST]>;
+
+fn meetings(ways: &[Way]) -> Meetings {
+    let mut met = vec![[0; FULLEST]; FULLEST];
     for &Way { places: [one, other], .. } in ways {
-        pairs[one][other] += 1;
-        pairs[other][one] += usize::from(one != other);
+        met[one][other] += 1;
+        met[other][one] += usize::from(one != other);
     }
-    let (mut best, mut most) = (Vec::new(), 0);
-    for start in 0..full.len() {
-        let (mut set, mut held) = (vec![start], pairs[start][start]);
-        while set.len() < 16 {
-            let states: usize = set.iter().map(|&place| full[place].1).sum();
-            let worth = 1000 * (states + held.min(wanted)) / set.len();
-            if worth > most {
-                (best, most) = (set.clone(), worth);
-            }
-            let gain =
-                |&at: &usize| pairs[at][at] + set.iter().map(|&in_| pairs[at][in_]).sum::<usize>();
-            let others = (0..full.len()).filter(|at| !set.contains(at));
-            let Some(next) = others.max_by_key(gain) else { break };
-            held += gain(&next);
-            set.push(next);
+    met
+}
+
+/// A set of places that grows from one, each time by the bucket that brings most ways: the best on the
+/// way, and what it is worth, the states and the wanted ways for each bucket.
+fn grown(
+    start: usize,
+    full: &[(usize, usize)],
+    met: &Meetings,
+    wanted: usize,
+) -> (usize, Vec<usize>) {
+    let (mut set, mut held, mut best) = (vec![start], met[start][start], (0, Vec::new()));
+    while set.len() < MOST_BUCKETS {
+        let states: usize = set.iter().map(|&place| full[place].1).sum();
+        let worth = 1000 * (states + held.min(wanted)) / set.len();
+        if worth > best.0 {
+            best = (worth, set.clone());
         }
+        let brings =
+            |&at: &usize| met[at][at] + set.iter().map(|&place| met[at][place]).sum::<usize>();
+        let others = (0..full.len()).filter(|at| !set.contains(at));
+        let next = others.max_by_key(brings).expect("there are more buckets than that");
+        held += brings(&next);
+        set.push(next);
     }
     best
+}
+
+/// The places of few full buckets that hold so many of these ways.
+fn few(full: &[(usize, usize)], ways: &[Way], wanted: usize) -> Vec<usize> {
+    let met = meetings(ways);
+    let sets = (0..full.len()).rev().map(|start| grown(start, full, &met, wanted));
+    sets.max_by_key(|&(worth, _)| worth).map_or(Vec::new(), |(_, set)| set)
 }
 
 /// A sheet that is refused with 31 when all its states are collected. Site 1 comes to its end with
@@ -178,13 +196,11 @@ fn few(full: &[(usize, usize)], ways: &[Way], wanted: usize) -> Vec<usize> {
 /// of their buckets stand before them.
 pub fn merging(random: &mut Random) -> Draft {
     let messages = Messages::new(random);
-    let mut moves = messages.site_1();
-    let full = messages.fullest();
-    let ways = messages.site_2(&full);
-    let set = few(&full, &ways, MOVES - moves.len());
+    let (mut moves, full) = (messages.site_1(), messages.fullest());
+    let (ways, wanted) = (messages.site_2(&full), MOVES - moves.len());
+    let set = few(&full, &ways, wanted);
     let held = ways.iter().filter(|way| way.places.iter().all(|place| set.contains(place)));
-    let more = MOVES - moves.len();
-    moves.extend(held.cycle().take(more).map(|&Way { to, vote, writes, .. }| Move {
+    moves.extend(held.cycle().take(wanted).map(|&Way { to, vote, writes, .. }| Move {
         site: 2,
         from: 0,
         to,
