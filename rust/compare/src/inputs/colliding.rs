@@ -7,7 +7,7 @@ use super::Random;
 use std::cmp::Reverse;
 
 /// How many buckets the library has.
-pub const BUCKETS: usize = 1024;
+pub const BUCKETS: usize = 2048;
 
 /// The bucket of a state, as in crates/judge/src/words.rt.
 #[inline]
