@@ -17,9 +17,12 @@ fn judged(draft: &Draft) -> (u8, Vec<u64>) {
 #[test]
 fn the_buckets_are_those_of_the_code() {
     let code = include_str!("../../../crates/judge/src/words.rt");
-    let last = format!("(b * 2246822519 / {} % {BUCKETS}) as usize", (1u64 << 32) / BUCKETS as u64);
-    assert!(code.contains("(x % 4294967296 + x / 4294967296 * 40503) * 1640531527"));
-    assert!(code.contains("(a ^ (a / 4294967296)) % 4294967296") && code.contains(&last));
+    let last = format!("(c * 2246822519 / {} % {BUCKETS}) as usize", (1u64 << 32) / BUCKETS as u64);
+    assert!(code.contains("let a = x % 4294967296 * 1640531527;"));
+    assert!(code.contains("let b = (a ^ (a / 4294967296)) % 4294967296;"));
+    assert!(
+        code.contains("let c = (b + x / 4294967296 * 40503) % 4294967296;") && code.contains(&last)
+    );
 }
 
 #[test]

@@ -12,8 +12,9 @@ pub const BUCKETS: usize = 2048;
 /// The bucket of a state, as in crates/judge/src/words.rt.
 #[inline]
 pub fn bucket(number: u64) -> usize {
-    let mixed = ((number & 0xFFFF_FFFF) + (number >> 32) * 40503).wrapping_mul(1_640_531_527);
-    let mixed = u64::from(mixed as u32 ^ (mixed >> 32) as u32);
+    let messages = (number & 0xFFFF_FFFF) * 1_640_531_527;
+    let messages = u64::from(messages as u32 ^ (messages >> 32) as u32);
+    let mixed = u64::from((messages + (number >> 32) * 40503) as u32);
     (mixed * 2_246_822_519) as u32 as usize / ((1 << 32) / BUCKETS)
 }
 
@@ -166,7 +167,7 @@ fn grown(
     wanted: usize,
 ) -> (usize, Vec<usize>) {
     let (mut set, mut held, mut best) = (vec![start], met[start][start], (0, Vec::new()));
-    while set.len() < MOST_BUCKETS {
+    while set.len() <= MOST_BUCKETS {
         let states: usize = set.iter().map(|&place| full[place].1).sum();
         let worth = 1000 * (states + held.min(wanted)) / set.len();
         if worth > best.0 {
