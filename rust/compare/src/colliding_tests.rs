@@ -25,6 +25,20 @@ fn the_buckets_are_those_of_the_code() {
     );
 }
 
+/// A step that reads messages 19, 17 and 10, writes 13, 7 and 4, and moves a site on: of a sum of the
+/// messages and 40503 times the local states it changes nothing.
+#[test]
+fn a_step_that_keeps_a_sum_does_not_keep_its_bucket() {
+    let (reads, writes) = (1 << 19 | 1 << 17 | 1 << 10, 1 << 13 | 1 << 7 | 1 << 4);
+    let mut random = Random::new(1);
+    let kept = (0..10_000).filter(|_| {
+        let from = (random.below(1 << 47) | reads) & !writes;
+        bucket(from) == bucket(from - reads + writes + (16 << 32))
+    });
+    let kept = kept.count();
+    assert!(kept < 100, "{kept} of 10,000 keep it");
+}
+
 #[test]
 fn a_crowded_sheet_is_accepted_and_fills_a_bucket() {
     for seed in 1..4 {
