@@ -1,4 +1,4 @@
--- The parts of a sheet as bytes, for callers in C: sites, four state counts, 32 marks, the first messages, the number of transitions,
+-- The parts of a sheet (02, Ask 3, "from the sheet's parts to the record") as bytes, for callers in C: sites, four state counts, 32 marks, the first messages, the number of transitions,
 -- 64 transitions of twelve bytes as in the record. Zeros stand where a sheet has nothing.
 -- Assumes nothing.
 use Prim.Native.Nat.{ℕ, _+_, _%_}

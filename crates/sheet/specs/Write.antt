@@ -13,7 +13,7 @@ use Rattle.sheet.specs.declared.Transition.{Transition}
 use Rattle.sheet.specs.declared.Sheet.{Sheet}
 use Rattle.sheet.specs.declared.Written.{Written}
 
--- ---- the record
+-- ---- the record (01, "Protocol sheets", the paragraph "Record", from the parts to the bytes)
 
 -- a set of messages in four bytes, big-endian
 unfoldable pub fourBytes : ℕ → List ℕ
@@ -45,7 +45,7 @@ bodyOf s =
 unfoldable pub recordOf : Sheet → List ℕ
 recordOf s = length (bodyOf s) / 256 ∷ length (bodyOf s) % 256 ∷ bodyOf s
 
--- ---- the grounds
+-- ---- the grounds (01, "Grounds for refusal", said of the parts; "The writer applies grounds 23 to 29")
 
 -- the state count of a site that is there is not 1 to 8, or that of an absent one not 0
 unfoldable pub wrongCount : Bool → ℕ → Bool
