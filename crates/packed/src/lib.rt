@@ -1,6 +1,7 @@
 // Sites and runs as bytes: whether bytes are one, read and written.
 // Any bytes are taken. What is no site or no run is read as one of no sites, of which every step and every event is refused with 1;
 // bytes of another number are not written, and 15 comes back.
+#![tactic(auto)]
 
 ghost use Rattle.std.specs.Prelude.{◌≡◌, ◌+◌, ◌*◌, ◌≤◌, length, take, drop};
 ghost use mathlib.Core.List.{flat_map};

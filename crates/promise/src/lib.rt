@@ -1,1 +1,2 @@
 // Demand 3, about every run from fresh: theorems only, in specs/.
+#![tactic(auto)]

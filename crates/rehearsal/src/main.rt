@@ -1,4 +1,5 @@
 // The rehearsal program: reads standard input to its end or to 65,536 bytes, and writes the rehearsal's text.
+#![tactic(auto)]
 
 ghost use Rattle.std.specs.Prelude.{◌≤◌, length};
 ghost use Rattle.transcript.specs.Transcript.{room_for, ShownWhole};

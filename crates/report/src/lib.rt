@@ -1,4 +1,6 @@
 // The report on a protocol sheet, as text in lent bytes (01, "The sheet program reads a sheet").
+#![tactic(auto)]
+
 ghost use Rattle.std.specs.Prelude.{◌≡◌};
 ghost use Rattle.report.specs.Report.{Reported};
 

@@ -1,5 +1,6 @@
 // A run of n sites: their records, the stopped ones and the network, and every event of document 01's "The run".
 // An event takes any run. What it cannot accept it refuses with 01's number, and the run comes back as it was.
+#![tactic(auto)]
 
 ghost use Rattle.std.specs.Prelude.{◌≡◌, true, cond, not, ◌&&◌, ◌||◌, ℕ, ◌+◌, ◌≤◌, eqb, leb, length};
 ghost use Rattle.sets.specs.Sets.{has, subset, below_of, with_site};
@@ -17,7 +18,7 @@ mod net;
 
 // The network stands at 8 * (kind - 1) + sender - 1: the set of receivers for which that message is outstanding.
 // The ninth row has no kind of 01 and stays empty.
-#[derive(Drop)]
+#[derive(Clone, Copy)]
 pub struct Run {
     pub n: u8,
     pub stopped: u8,
@@ -26,7 +27,7 @@ pub struct Run {
 }
 
 // An acting site's step, a stop, or a stop inside a step, with the set of receivers whose messages still leave.
-#[derive(Drop)]
+#[derive(Clone, Copy)]
 pub enum Event {
     Act(u8, Step),
     Stop(u8),
@@ -34,7 +35,7 @@ pub enum Event {
 }
 
 // An event's answer.
-#[derive(Drop)]
+#[derive(Clone, Copy)]
 pub struct Ran {
     pub run: Run,
     pub outcome: Outcome,
@@ -43,14 +44,14 @@ pub struct Ran {
 
 // A run with what its test found. Only this crate makes one: `good` stands where the run is sound and its leaders are in order, and so stays
 // sound, event by event.
-#[derive(Drop)]
+#[derive(Clone, Copy)]
 pub struct Tested {
     run: Run,
     good: bool,
 }
 
 // An event's answer, with the run as it then is.
-#[derive(Drop)]
+#[derive(Clone, Copy)]
 pub struct Next {
     pub tested: Tested,
     pub outcome: Outcome,
@@ -59,7 +60,7 @@ pub struct Next {
 
 // What an accepted event of a site does to a run: the site's record afterwards, the message that it takes out of the network (kind 0 for
 // none), the messages of one kind that leave, and whether the site stops.
-#[derive(Drop)]
+#[derive(Clone, Copy)]
 struct Effect {
     site: Site,
     got: u8,
@@ -70,7 +71,7 @@ struct Effect {
 }
 
 // A site's answer to a step that it accepts, or the ground on which the step is refused.
-#[derive(Drop)]
+#[derive(Clone, Copy)]
 enum Reply {
     Good(Answer),
     Bad(u8),

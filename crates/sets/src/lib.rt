@@ -1,5 +1,6 @@
 // Sets of sites. A set is a byte in which site j, of 1 to 8, has the weight 2^(j-1) (document 01, "Event record").
 // Every function takes any number: a site outside 1 to 8 is in no set and has weight 0.
+#![tactic(auto)]
 
 ghost use Rattle.std.specs.Prelude.{◌≡◌};
 ghost use Rattle.sets.specs.Sets.{weight_of, has, union, both, minus, with_site, without, subset, all_of, others_of, below_of, count_of, lowest_of};

@@ -1,6 +1,8 @@
 // Protocol sheets (01, "Protocol sheets"): the record, its parts, the reader with grounds 21 to 29, and the writer with 23 to 29 and 32.
 // Neither knows anything of what a sheet is judged by. The grounds from 25 on are stated over the parts alone, and are those of both; the writer
 // has besides what stands where a sheet has nothing.
+#![tactic(auto)]
+
 ghost use Rattle.std.specs.Prelude.{◌≡◌};
 ghost use Rattle.sheet.specs.Record.{no_transition, no_sheet};
 ghost use Rattle.sheet.specs.Grounds.{sheet_ground, sheet_of};
@@ -19,7 +21,7 @@ mod parts_bytes; // parts_bytes.rt: the parts as 810 bytes
 pub const PARTS: usize = 810;
 
 // A transition of one site (01, "Protocol sheets"): sets of messages are masks, message m at weight 2^m.
-#[derive(Drop)]
+#[derive(Clone, Copy)]
 pub struct Transition {
     pub site: u8,
     pub from: u8,
@@ -31,7 +33,7 @@ pub struct Transition {
 
 // A protocol sheet's parts: number of sites, state counts, marks at 8 * (site - 1) + state, first messages,
 // number of transitions, transitions; what a sheet does not have is zero.
-#[derive(Drop)]
+#[derive(Clone, Copy)]
 pub struct Sheet {
     pub sites: u8,
     pub counts: [u8; 4],
@@ -65,7 +67,7 @@ pub fn parts(bytes: &[u8]) -> Sheet
 }
 
 // What the writer answers: the refusal, or 0 and the length of the record.
-#[derive(Drop)]
+#[derive(Clone, Copy)]
 pub struct Written {
     pub refusal: u8,
     pub length: usize,

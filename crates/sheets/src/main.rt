@@ -1,4 +1,5 @@
 // The sheet program: reads standard input to its end or to 65,536 bytes, and writes the report on the sheet that it holds.
+#![tactic(auto)]
 
 ghost use Rattle.std.specs.Prelude.{◌≤◌, length};
 ghost use Rattle.report.specs.Report.{longest, ToldWhole};

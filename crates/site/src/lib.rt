@@ -1,5 +1,6 @@
 // A site of the register's commit: its record, the messages, and the site step (document 01, "Site and messages").
 // A step takes any record and any step. What it cannot accept it refuses with 01's number, and the record comes back as it was.
+#![tactic(auto)]
 
 ghost use Rattle.std.specs.Prelude.{◌≡◌, ◌&&◌, eqb, ltb};
 ghost use Rattle.sets.specs.Sets.{below_of, subset};
@@ -9,7 +10,7 @@ ghost use Rattle.site.specs.Leader.{move_pat, move_wat, commit_at, abort_at, ord
 ghost use Rattle.site.specs.Step.{notice_of, conclude_of, deliver_of, rule_of, done_of, kind_of, counted, counts_of, answered, step_of};
 
 // The states: first, wait, prepared, abort, commit.
-#[derive(Drop)]
+#[derive(Clone, Copy)]
 pub enum State {
     Q,
     W,
@@ -18,14 +19,14 @@ pub enum State {
     C,
 }
 
-#[derive(Drop)]
+#[derive(Clone, Copy)]
 pub enum Vote {
     Yes,
     No,
 }
 
 // A site's record: the number of sites, its own number, its state, the leader it follows, and four sets of other sites.
-#[derive(Drop)]
+#[derive(Clone, Copy)]
 pub struct Site {
     pub n: u8,
     pub number: u8,
@@ -38,7 +39,7 @@ pub struct Site {
 }
 
 // What a site may be asked to do. A Start comes with the site's vote; the other messages are known by kind and sender.
-#[derive(Drop)]
+#[derive(Clone, Copy)]
 pub enum Step {
     Begin(Vote),
     Start(u8, Vote),
@@ -49,7 +50,7 @@ pub enum Step {
 }
 
 // How a step or an event ends: taken, passed over, or refused with 01's number.
-#[derive(Drop)]
+#[derive(Clone, Copy)]
 pub enum Outcome {
     Taken,
     Passed,
@@ -57,7 +58,7 @@ pub enum Outcome {
 }
 
 // What a step did: the site afterwards, and one kind of message written to a set of receivers. The laws of the promise speak of it.
-#[derive(Drop)]
+#[derive(Clone, Copy)]
 pub struct Done {
     pub site: Site,
     pub outcome: Outcome,
@@ -66,7 +67,7 @@ pub struct Done {
 }
 
 // What a step reports: how many messages are written, how many sites are still awaited, and the lowest of these, 0 where nobody is.
-#[derive(Drop)]
+#[derive(Clone, Copy)]
 pub struct Counts {
     pub written: u8,
     pub awaited: u8,
@@ -74,7 +75,7 @@ pub struct Counts {
 }
 
 // A step's answer. Where nobody is written to, the kind is 0.
-#[derive(Drop)]
+#[derive(Clone, Copy)]
 pub struct Answer {
     pub site: Site,
     pub outcome: Outcome,
@@ -84,7 +85,7 @@ pub struct Answer {
 }
 
 // What an order of a leader does to a state: it leads to a state, is passed over, or conflicts. The laws of the promise speak of it.
-#[derive(Drop)]
+#[derive(Clone, Copy)]
 pub enum Order {
     To(State),
     Over,

@@ -1,5 +1,6 @@
 // Text in lent bytes: parts and decimal numbers, put one after another.
 // What does not fit is not put: the bytes stay as they are, and the place comes back.
+#![tactic(auto)]
 
 ghost use Rattle.std.specs.Prelude.{◌≡◌, ◌+◌, ◌≤◌, ◌<◌, length};
 ghost use Rattle.text.specs.Text.{fits, end_of, spliced, Put};
