@@ -1,0 +1,14 @@
+-- `marks_in` meets its contract: the places passed are filled.
+-- Assumes nothing.
+use Prim.Native.Nat.{ℕ, ◌+◌, ◌-◌}
+use mathlib.Core.Path.{refl}
+use Rattle.sheet.proofs.IndexLaws.{Filled, filling_begins, filling_goes_on, filling_ends}
+use Rattle.sheet.specs.Record.{byte}
+use borrow.Author.Rules.{rules}
+use Rattle.sheet.proofs.parts_bytes.marks_in.Given as goal
+
+abbrev pub invariant-loop-k : goal.invariant-loop-k
+invariant-loop-k l = Filled (λ (j : ℕ). byte l.bytes (5 + j)) 0 32 l.k l.marks
+
+abbrev pub decreases-loop-k : goal.decreases-loop-k
+decreases-loop-k l = 32 - l.k

@@ -1,0 +1,13 @@
+-- `is_wrong_count` meets its contract.
+-- Assumes nothing.
+use Rattle.sheet.specs.Write.{wrong_count}
+use borrow.Author.Rules.{rules}
+use Rattle.sheet.proofs.writer.is_wrong_count.Goals as goal
+
+pub returns-then-there : goal.returns-then-there
+unfolding wrong_count
+returns-then-there c = simp c.if-there.true c.is_outside.ensures
+
+pub returns : goal.returns
+unfolding wrong_count
+returns c = simp c.if-there.false
