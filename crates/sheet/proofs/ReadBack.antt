@@ -1,6 +1,6 @@
 -- The record of parts, read: where its pieces stand, that the reader finds the same parts, and that it gives the ground that the writer gives.
 -- Assumes nothing.
-use Prim.Native.Nat.{ℕ, ◌+◌, ◌-◌, ◌*◌, ◌/◌, ◌%◌, ◌≤◌, ◌<◌}
+use Prim.Native.Nat.{ℕ, ◌+◌, ◌*◌, ◌/◌, ◌%◌, ◌≤◌, ◌<◌}
 use mathlib.Core.Bool.{Bool, true, false, ◌||◌, or-true}
 use mathlib.Core.List.{List, [], ◌∷◌, ◌++◌, flat_map, flatten}
 use mathlib.Core.Path.{◌≡◌, refl, sym, ap, ap₂, subst, ◌∙◌}

@@ -3,7 +3,6 @@
 use native.Mathlib.Omega.{arith}
 use borrow.Author.Tests.{eq-eqb, ne_eqb}
 use Rattle.sheet.specs.Parts.{parts_size, parts_from}
-use borrow.Author.Rules.{rules}
 use Rattle.sheet.proofs.from_parts.Goals as goal
 
 pub returns-then-bytes-ne-PARTS : goal.returns-then-bytes-ne-PARTS

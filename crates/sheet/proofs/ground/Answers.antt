@@ -5,7 +5,6 @@ use Rattle.sheet.specs.Record.{parts_by}
 use Rattle.sheet.specs.Grounds.{frame_ground, parts_ground}
 use Rattle.sheet.proofs.GroundLaws.{framed, frame_first, parts_next}
 use Rattle.sheet.proofs.FineLaws.{moves_few, sites_few}
-use borrow.Author.Rules.{rules}
 use Rattle.sheet.proofs.ground.Goals as goal
 
 pub returns-then-frame-ne0 : goal.returns-then-frame-ne0

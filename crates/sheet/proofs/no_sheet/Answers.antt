@@ -1,7 +1,6 @@
 -- `no_sheet` meets its contract.
 -- Assumes nothing.
 use Rattle.sheet.specs.Record.{no_sheet}
-use borrow.Author.Rules.{rules}
 use Rattle.sheet.proofs.no_sheet.Goals as goal
 
 pub returns : goal.returns

@@ -5,7 +5,6 @@ use Rattle.sheet.specs.Grounds.{frame_ground}
 use Rattle.sheet.proofs.GroundLaws.{frame_first, sheet_is, sheet_none}
 use Rattle.sheet.specs.Fine.{Fine}
 use Rattle.sheet.proofs.CycleLaws.{accepted_fine}
-use borrow.Author.Rules.{rules}
 use Rattle.sheet.proofs.parts.Goals as goal
 
 pub returns-then-frame_ground-ne0 : goal.returns-then-frame_ground-ne0

@@ -3,7 +3,6 @@
 use mathlib.Core.Path.{sym}
 use borrow.Author.Tests.{lt-leb, le-leb}
 use Rattle.sheet.specs.Parts.{parts_size, parts_put}
-use borrow.Author.Rules.{rules}
 use Rattle.sheet.proofs.put_parts.Goals as goal
 
 pub returns-then-room-lt-PARTS : goal.returns-then-room-lt-PARTS

@@ -7,7 +7,6 @@ use native.Mathlib.Omega.{arith}
 use lib.ListN.{drop}
 use Rattle.sheet.specs.Write.{record_of}
 use Rattle.sheet.proofs.WriteLaws.{refused_parts, refused_room, written}
-use borrow.Author.Rules.{rules}
 use Rattle.sheet.proofs.write.Goals as goal
 
 pub returns-then-ground-ne0 : goal.returns-then-ground-ne0

@@ -2,7 +2,6 @@
 -- Assumes nothing.
 use borrow.Author.Tests.{eq-eqb, ne_eqb}
 use Rattle.sheet.specs.Grounds.{misversioned, frame_ground}
-use borrow.Author.Rules.{rules}
 use Rattle.sheet.proofs.frame.frame_ground.Goals as goal
 
 pub returns-then-is_misframed : goal.returns-then-is_misframed

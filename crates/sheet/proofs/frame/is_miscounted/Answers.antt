@@ -1,10 +1,8 @@
 -- What is left to show.
-use Prim.Native.Nat.{◌-◌}
 use mathlib.Core.Bool.{true}
 use mathlib.Core.Path.{◌≡◌, sym}
-use Rattle.sheet.proofs.IndexLaws.{Unfound, some_found, search_begins, search_goes_on, search_ends}
+use Rattle.sheet.proofs.IndexLaws.{some_found, search_begins, search_goes_on, search_ends}
 use Rattle.sheet.specs.Grounds.{miscounted_at, miscounted}
-use borrow.Author.Rules.{rules}
 use Rattle.sheet.proofs.frame.is_miscounted.Goals as goal
 
 pub returns-then-is_outside : goal.returns-then-is_outside

@@ -1,11 +1,8 @@
 -- `is_miscounted` meets its contract: the counts passed are in their range.
 -- Assumes nothing.
 use Prim.Native.Nat.{◌-◌}
-use mathlib.Core.Bool.{true}
-use mathlib.Core.Path.{◌≡◌, sym}
-use Rattle.sheet.proofs.IndexLaws.{Unfound, some_found, search_begins, search_goes_on, search_ends}
-use Rattle.sheet.specs.Grounds.{miscounted_at, miscounted}
-use borrow.Author.Rules.{rules}
+use Rattle.sheet.proofs.IndexLaws.{Unfound}
+use Rattle.sheet.specs.Grounds.{miscounted_at}
 use Rattle.sheet.proofs.frame.is_miscounted.Given as goal
 
 abbrev pub invariant-loop-i : goal.invariant-loop-i

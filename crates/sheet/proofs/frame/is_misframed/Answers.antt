@@ -2,7 +2,6 @@
 -- Assumes nothing.
 use borrow.Author.Tests.{lt-ltb, le-ltb, eq-eqb, ne_eqb}
 use Rattle.sheet.specs.Grounds.{misframed}
-use borrow.Author.Rules.{rules}
 use Rattle.sheet.proofs.frame.is_misframed.Goals as goal
 
 pub returns-then-bytes-lt2 : goal.returns-then-bytes-lt2

@@ -7,7 +7,6 @@ use native.Mathlib.Omega.{arith}
 use borrow.Author.Tests.{lt-ltb, le-ltb, le-leb, lt-leb}
 use lib.Dec.{eqb}
 use Rattle.sheet.specs.Grounds.{mismeasured_by}
-use borrow.Author.Rules.{rules}
 use Rattle.sheet.proofs.frame.is_mismeasured.Goals as goal
 
 pub returns-then-bytes-moves_at : goal.returns-then-bytes-moves_at

@@ -1,7 +1,6 @@
 -- `is_among` meets its contract: the place is the one below the site.
 -- Assumes nothing.
 use native.Mathlib.Omega.{arith}
-use borrow.Author.Rules.{rules}
 use Rattle.sheet.proofs.grounds.is_among.Goals as goal
 
 pub bounds-others-at : goal.bounds-others-at

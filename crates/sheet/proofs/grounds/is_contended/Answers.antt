@@ -1,12 +1,9 @@
 -- What is left to show.
-use Prim.Native.Nat.{◌-◌}
 use mathlib.Core.Path.{sym, ◌∙◌}
 use native.Mathlib.Omega.{arith}
-use Rattle.sheet.proofs.IndexLaws.{Unfound, some_found, search_begins, search_goes_on, search_ends}
-use Rattle.sheet.specs.Grounds.{read_elsewhere, some_move}
-use Rattle.sheet.specs.Record.{move_of}
+use Rattle.sheet.proofs.IndexLaws.{some_found, search_begins, search_goes_on, search_ends}
+use Rattle.sheet.specs.Grounds.{some_move}
 use Rattle.sheet.proofs.Readers.{read_elsewhere_lem}
-use borrow.Author.Rules.{rules}
 use Rattle.sheet.proofs.grounds.is_contended.Goals as goal
 
 pub loop-i-init : goal.loop-i-init

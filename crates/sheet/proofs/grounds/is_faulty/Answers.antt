@@ -4,7 +4,6 @@ use borrow.Author.Tests.{ne_eqb}
 use native.Mathlib.Omega.{arith}
 use Rattle.sheet.specs.Grounds.{reads_nothing}
 use Rattle.sheet.specs.Faults.{fault_of}
-use borrow.Author.Rules.{rules}
 use Rattle.sheet.proofs.grounds.is_faulty.Goals as goal
 
 pub returns-in-25 : goal.returns-in-25

@@ -2,7 +2,6 @@
 -- Assumes nothing.
 use borrow.Author.Tests.{le-leb, lt-leb}
 use Rattle.sheet.specs.Grounds.{misplaced}
-use borrow.Author.Rules.{rules}
 use Rattle.sheet.proofs.grounds.is_misplaced.Goals as goal
 
 pub returns-then-is_outside : goal.returns-then-is_outside

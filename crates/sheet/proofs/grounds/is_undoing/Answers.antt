@@ -3,7 +3,6 @@
 use mathlib.Core.Bool.{or-false}
 use borrow.Author.Tests.{ne_eqb}
 use Rattle.sheet.specs.Grounds.{undoes}
-use borrow.Author.Rules.{rules}
 use Rattle.sheet.proofs.grounds.is_undoing.Goals as goal
 
 pub returns-then-from-eq1 : goal.returns-then-from-eq1

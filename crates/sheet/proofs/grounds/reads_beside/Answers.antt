@@ -1,11 +1,9 @@
 -- What is left to show.
-use Prim.Native.Nat.{◌-◌, ◌≤◌}
-use mathlib.Core.Path.{◌≡◌, refl, sym, ap, ◌∙◌}
+use mathlib.Core.Path.{refl, sym, ap, ◌∙◌}
 use native.Mathlib.Omega.{arith}
 use native.Mathlib.Numerals.{add-one}
 use Rattle.sheet.specs.Record.{move_of}
 use Rattle.sheet.specs.Faults.{with_reads, read_without}
-use borrow.Author.Rules.{rules}
 use Rattle.sheet.proofs.grounds.reads_beside.Goals as goal
 
 pub loop-i-init : goal.loop-i-init

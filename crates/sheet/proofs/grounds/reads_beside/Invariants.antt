@@ -1,11 +1,8 @@
 -- `reads_beside` meets its contract: what the transitions passed read, those of the site left out.
 -- Assumes nothing.
 use Prim.Native.Nat.{◌-◌, ◌≤◌}
-use mathlib.Core.Path.{◌≡◌, refl, sym, ap, ◌∙◌}
-use native.Mathlib.Omega.{arith}
-use native.Mathlib.Numerals.{add-one}
-use Rattle.sheet.specs.Faults.{with_reads, read_without}
-use borrow.Author.Rules.{rules}
+use mathlib.Core.Path.{◌≡◌}
+use Rattle.sheet.specs.Faults.{read_without}
 use Rattle.sheet.proofs.grounds.reads_beside.Given as goal
 
 abbrev pub invariant-loop-i : goal.invariant-loop-i

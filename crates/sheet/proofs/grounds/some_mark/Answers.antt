@@ -1,10 +1,8 @@
 -- What is left to show.
-use Prim.Native.Nat.{◌-◌}
 use mathlib.Core.Path.{sym}
-use Rattle.sheet.proofs.IndexLaws.{Unfound, some_found, search_begins, search_goes_on, search_ends}
+use Rattle.sheet.proofs.IndexLaws.{some_found, search_begins, search_goes_on, search_ends}
 use borrow.Author.Tests.{lt-ltb, le-ltb}
 use Rattle.sheet.specs.Grounds.{mismarked}
-use borrow.Author.Rules.{rules}
 use Rattle.sheet.proofs.grounds.some_mark.Goals as goal
 
 pub loop-k-init : goal.loop-k-init

@@ -1,11 +1,7 @@
 -- What is left to show.
-use Prim.Native.Nat.{◌-◌}
 use mathlib.Core.Path.{sym, ◌∙◌}
-use Rattle.sheet.proofs.IndexLaws.{Unfound, some_found, search_begins, search_goes_on, search_ends}
+use Rattle.sheet.proofs.IndexLaws.{some_found, search_begins, search_goes_on, search_ends}
 use Rattle.sheet.specs.Grounds.{some_move}
-use Rattle.sheet.specs.Faults.{fault_of}
-use Rattle.sheet.specs.Record.{move_of}
-use borrow.Author.Rules.{rules}
 use Rattle.sheet.proofs.grounds.some_move.Goals as goal
 
 pub loop-i-init : goal.loop-i-init

@@ -1,12 +1,9 @@
 -- `some_move` meets its contract: no transition passed gives the ground.
 -- Assumes nothing.
 use Prim.Native.Nat.{◌-◌}
-use mathlib.Core.Path.{sym, ◌∙◌}
-use Rattle.sheet.proofs.IndexLaws.{Unfound, some_found, search_begins, search_goes_on, search_ends}
-use Rattle.sheet.specs.Grounds.{some_move}
+use Rattle.sheet.proofs.IndexLaws.{Unfound}
 use Rattle.sheet.specs.Faults.{fault_of}
 use Rattle.sheet.specs.Record.{move_of}
-use borrow.Author.Rules.{rules}
 use Rattle.sheet.proofs.grounds.some_move.Given as goal
 
 abbrev pub invariant-loop-i : goal.invariant-loop-i

@@ -1,8 +1,6 @@
 -- What is left to show.
-use Prim.Native.Nat.{ℕ, ◌+◌, ◌-◌}
 use mathlib.Core.Path.{refl}
-use Rattle.sheet.proofs.IndexLaws.{Filled, filling_begins, filling_goes_on, filling_ends}
-use Rattle.sheet.specs.Record.{byte}
+use Rattle.sheet.proofs.IndexLaws.{filling_begins, filling_goes_on, filling_ends}
 use borrow.Author.Rules.{rules}
 use Rattle.sheet.proofs.parts_bytes.marks_in.Goals as goal
 

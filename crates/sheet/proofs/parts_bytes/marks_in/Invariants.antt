@@ -1,10 +1,8 @@
 -- `marks_in` meets its contract: the places passed are filled.
 -- Assumes nothing.
 use Prim.Native.Nat.{ℕ, ◌+◌, ◌-◌}
-use mathlib.Core.Path.{refl}
-use Rattle.sheet.proofs.IndexLaws.{Filled, filling_begins, filling_goes_on, filling_ends}
+use Rattle.sheet.proofs.IndexLaws.{Filled}
 use Rattle.sheet.specs.Record.{byte}
-use borrow.Author.Rules.{rules}
 use Rattle.sheet.proofs.parts_bytes.marks_in.Given as goal
 
 abbrev pub invariant-loop-k : goal.invariant-loop-k

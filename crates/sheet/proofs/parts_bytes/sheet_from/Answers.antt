@@ -2,7 +2,6 @@
 -- Assumes nothing.
 use Rattle.sheet.specs.Index.{table}
 use Rattle.sheet.specs.Parts.{parts_in}
-use borrow.Author.Rules.{rules}
 use Rattle.sheet.proofs.parts_bytes.sheet_from.Goals as goal
 
 pub returns : goal.returns

@@ -1,7 +1,6 @@
 -- `after` meets its contract, by whether the state is there.
 -- Assumes nothing.
 use native.Mathlib.Nat.{add-zero}
-use borrow.Author.Rules.{rules}
 use Rattle.sheet.proofs.record.after.Goals as goal
 
 pub returns-then-there : goal.returns-then-there

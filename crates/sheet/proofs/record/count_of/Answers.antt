@@ -2,7 +2,6 @@
 -- Assumes nothing.
 use borrow.Author.Tests.{lt-ltb, le-ltb}
 use Rattle.sheet.specs.Record.{state_count}
-use borrow.Author.Rules.{rules}
 use Rattle.sheet.proofs.record.count_of.Goals as goal
 
 pub returns-then-i-sites : goal.returns-then-i-sites

@@ -2,7 +2,6 @@
 -- Assumes nothing.
 use Rattle.sheet.specs.Index.{table}
 use Rattle.sheet.specs.Record.{state_counts}
-use borrow.Author.Rules.{rules}
 use Rattle.sheet.proofs.record.counts_of.Goals as goal
 
 pub returns : goal.returns

@@ -1,6 +1,5 @@
 -- `mark_at` meets its contract, by whether the state is there.
 -- Assumes nothing.
-use borrow.Author.Rules.{rules}
 use Rattle.sheet.proofs.record.mark_at.Goals as goal
 
 pub returns-then-there : goal.returns-then-there

@@ -1,12 +1,11 @@
 -- What is left to show.
-use Prim.Native.Nat.{◌+◌, ◌-◌, ◌/◌, ◌%◌, ◌≤◌}
-use mathlib.Core.Path.{◌≡◌, ◌∙◌}
+use Prim.Native.Nat.{◌/◌, ◌%◌}
+use mathlib.Core.Path.{◌∙◌}
 use native.Mathlib.Omega.{arith}
 use lib.Dec.{ltb}
 use lib.ListN.{get_or}
-use Rattle.sheet.proofs.IndexLaws.{Filled, filling_begins, filling_goes_on, filling_ends}
-use Rattle.sheet.specs.Record.{mark_read}
-use Rattle.sheet.proofs.Marks.{passed, passed_none, passed_more, one_at_most, mark_is}
+use Rattle.sheet.proofs.IndexLaws.{filling_begins, filling_goes_on, filling_ends}
+use Rattle.sheet.proofs.Marks.{passed_none, passed_more, one_at_most, mark_is}
 use borrow.Author.Rules.{rules}
 use Rattle.sheet.proofs.record.marks_of.Goals as goal
 

@@ -1,14 +1,10 @@
 -- `marks_of` meets its contract: the places passed are filled, and the next mark stands after those passed.
 -- Assumes nothing.
-use Prim.Native.Nat.{◌+◌, ◌-◌, ◌/◌, ◌%◌, ◌≤◌}
-use mathlib.Core.Path.{◌≡◌, ◌∙◌}
-use native.Mathlib.Omega.{arith}
-use lib.Dec.{ltb}
-use lib.ListN.{get_or}
-use Rattle.sheet.proofs.IndexLaws.{Filled, filling_begins, filling_goes_on, filling_ends}
+use Prim.Native.Nat.{◌+◌, ◌-◌, ◌≤◌}
+use mathlib.Core.Path.{◌≡◌}
+use Rattle.sheet.proofs.IndexLaws.{Filled}
 use Rattle.sheet.specs.Record.{mark_read}
-use Rattle.sheet.proofs.Marks.{passed, passed_none, passed_more, one_at_most, mark_is}
-use borrow.Author.Rules.{rules}
+use Rattle.sheet.proofs.Marks.{passed}
 use Rattle.sheet.proofs.record.marks_of.Given as goal
 
 abbrev pub invariant-loop-k : goal.invariant-loop-k

@@ -1,7 +1,6 @@
 -- `moves_at` meets its contract: what stands before is as long as the counts say.
 -- Assumes nothing.
 use native.Mathlib.Omega.{arith}
-use borrow.Author.Rules.{rules}
 use Rattle.sheet.proofs.record.moves_at.Goals as goal
 
 pub returns : goal.returns

@@ -2,7 +2,6 @@
 -- Assumes nothing.
 use Prim.Native.Nat.{◌+◌}
 use native.Mathlib.Omega.{arith}
-use borrow.Author.Rules.{rules}
 use Rattle.sheet.proofs.record.pair_at.Goals as goal
 
 pub overflow_cast-high : goal.overflow_cast-high

@@ -6,7 +6,6 @@ use native.Mathlib.Omega.{arith}
 use Rattle.sheet.specs.Record.{byte, sites_of, state_counts, moves_of, first_at, parts_by}
 use Rattle.sheet.proofs.GroundLaws.{framed}
 use Rattle.sheet.proofs.FineLaws.{moves_few, whole, count_few}
-use borrow.Author.Rules.{rules}
 use Rattle.sheet.proofs.record.parts.Goals as goal
 
 pub word_at-first-requires : goal.word_at-first-requires

@@ -1,13 +1,7 @@
 -- `states_of` meets its contract: what is added up so far is the states before place j.
 -- Assumes nothing.
 use Prim.Native.Nat.{◌*◌, ◌-◌, ◌≤◌}
-use mathlib.Core.Path.{◌≡◌, ap, ◌∙◌}
-use native.Mathlib.Omega.{arith}
-use borrow.Author.Rules.{rules}
-use mir.Syntax.{w8}
-use mir.Val.{Fits}
-use lib.ListN.{get_or}
-use Rattle.sheet.proofs.IndexLaws.{sum_none, sum_more}
+use mathlib.Core.Path.{◌≡◌}
 use Rattle.sheet.specs.Record.{states_before}
 use Rattle.sheet.proofs.record.states_of.Given as goal
 

@@ -1,7 +1,6 @@
 -- `transition_from` meets its contract: each field is what is read at its place.
 -- Assumes nothing.
 use Rattle.sheet.specs.Record.{transition_from}
-use borrow.Author.Rules.{rules}
 use Rattle.sheet.proofs.record.transition_from.Goals as goal
 
 pub returns : goal.returns

@@ -1,12 +1,11 @@
 -- What is left to show.
-use Prim.Native.Nat.{ℕ, ◌-◌, ◌≤◌, ◌<◌}
-use mathlib.Core.Path.{◌≡◌, ◌∙◌}
+use mathlib.Core.Path.{◌∙◌}
 use native.Mathlib.Omega.{arith}
 use borrow.Author.Rules.{rules}
 use borrow.Author.Tests.{lt-ltb, le-ltb}
-use lib.ListN.{get_or, get_or-replicate}
+use lib.ListN.{get_or-replicate}
 use lib.Seq.{get_or-set_other}
-use Rattle.sheet.proofs.IndexLaws.{Filled, filling_begins, filling_goes_on, filling_rest, filling_ends}
+use Rattle.sheet.proofs.IndexLaws.{filling_begins, filling_goes_on, filling_rest, filling_ends}
 use Rattle.sheet.specs.Record.{transition_in, no_transition}
 use Rattle.sheet.proofs.record.transitions_of.Goals as goal
 

@@ -1,13 +1,9 @@
 -- `transitions_of` meets its contract: the places passed are filled, and none stands at the others.
 -- Assumes nothing.
 use Prim.Native.Nat.{ℕ, ◌-◌, ◌≤◌, ◌<◌}
-use mathlib.Core.Path.{◌≡◌, ◌∙◌}
-use native.Mathlib.Omega.{arith}
-use borrow.Author.Rules.{rules}
-use borrow.Author.Tests.{lt-ltb, le-ltb}
-use lib.ListN.{get_or, get_or-replicate}
-use lib.Seq.{get_or-set_other}
-use Rattle.sheet.proofs.IndexLaws.{Filled, filling_begins, filling_goes_on, filling_rest, filling_ends}
+use mathlib.Core.Path.{◌≡◌}
+use lib.ListN.{get_or}
+use Rattle.sheet.proofs.IndexLaws.{Filled}
 use Rattle.sheet.specs.Record.{transition_in, no_transition}
 use Rattle.sheet.proofs.record.transitions_of.Given as goal
 

@@ -3,7 +3,6 @@
 use Prim.Native.Nat.{ℕ, ◌+◌}
 use mathlib.Core.Path.{◌≡◌, ap}
 use native.Mathlib.Omega.{arith}
-use borrow.Author.Rules.{rules}
 use lib.ListN.{get_or}
 use Rattle.sheet.specs.Record.{four_at}
 use Rattle.sheet.proofs.record.word_at.Goals as goal

@@ -1,9 +1,7 @@
 -- What is left to show.
-use Prim.Native.Nat.{◌-◌}
 use mathlib.Core.Path.{sym, ◌∙◌}
-use Rattle.sheet.proofs.IndexLaws.{Unfound, some_found, search_begins, search_goes_on, search_ends}
+use Rattle.sheet.proofs.IndexLaws.{some_found, search_begins, search_goes_on, search_ends}
 use Rattle.sheet.specs.Write.{stray_mark}
-use borrow.Author.Rules.{rules}
 use Rattle.sheet.proofs.writer.has_stray_mark.Goals as goal
 
 pub loop-k-init : goal.loop-k-init

@@ -1,10 +1,8 @@
 -- `has_stray_mark` meets its contract: no mark passed is stray.
 -- Assumes nothing.
 use Prim.Native.Nat.{◌-◌}
-use mathlib.Core.Path.{sym, ◌∙◌}
-use Rattle.sheet.proofs.IndexLaws.{Unfound, some_found, search_begins, search_goes_on, search_ends}
+use Rattle.sheet.proofs.IndexLaws.{Unfound}
 use Rattle.sheet.specs.Write.{stray_mark}
-use borrow.Author.Rules.{rules}
 use Rattle.sheet.proofs.writer.has_stray_mark.Given as goal
 
 abbrev pub invariant-loop-k : goal.invariant-loop-k

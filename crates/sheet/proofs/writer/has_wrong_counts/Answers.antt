@@ -1,11 +1,7 @@
 -- What is left to show.
-use Prim.Native.Nat.{◌-◌}
 use mathlib.Core.Path.{sym, ◌∙◌}
-use lib.Dec.{ltb}
-use lib.ListN.{get_or}
-use Rattle.sheet.proofs.IndexLaws.{Unfound, some_found, search_begins, search_goes_on, search_ends}
-use Rattle.sheet.specs.Write.{wrong_count, wrong_counts}
-use borrow.Author.Rules.{rules}
+use Rattle.sheet.proofs.IndexLaws.{some_found, search_begins, search_goes_on, search_ends}
+use Rattle.sheet.specs.Write.{wrong_counts}
 use Rattle.sheet.proofs.writer.has_wrong_counts.Goals as goal
 
 pub returns-then-is_outside : goal.returns-then-is_outside

@@ -1,12 +1,10 @@
 -- `has_wrong_counts` meets its contract: no count passed is wrong.
 -- Assumes nothing.
 use Prim.Native.Nat.{◌-◌}
-use mathlib.Core.Path.{sym, ◌∙◌}
 use lib.Dec.{ltb}
 use lib.ListN.{get_or}
-use Rattle.sheet.proofs.IndexLaws.{Unfound, some_found, search_begins, search_goes_on, search_ends}
-use Rattle.sheet.specs.Write.{wrong_count, wrong_counts}
-use borrow.Author.Rules.{rules}
+use Rattle.sheet.proofs.IndexLaws.{Unfound}
+use Rattle.sheet.specs.Write.{wrong_count}
 use Rattle.sheet.proofs.writer.has_wrong_counts.Given as goal
 
 abbrev pub invariant-loop-i : goal.invariant-loop-i

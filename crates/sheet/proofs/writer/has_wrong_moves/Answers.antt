@@ -1,11 +1,9 @@
 -- What is left to show.
-use Prim.Native.Nat.{◌-◌, ◌≤◌}
 use mathlib.Core.Path.{sym, ◌∙◌}
 use native.Mathlib.Omega.{arith}
 use borrow.Author.Tests.{lt-ltb, le-ltb, le-leb, lt-leb}
-use Rattle.sheet.proofs.IndexLaws.{Unfound, none_found, some_found, search_goes_on, search_ends}
+use Rattle.sheet.proofs.IndexLaws.{none_found, some_found, search_goes_on, search_ends}
 use Rattle.sheet.specs.Write.{stray_move, wrong_moves}
-use borrow.Author.Rules.{rules}
 use Rattle.sheet.proofs.writer.has_wrong_moves.Goals as goal
 
 pub returns-then-moves-gt64 : goal.returns-then-moves-gt64

@@ -2,7 +2,6 @@
 -- Assumes nothing.
 use mathlib.Core.Path.{refl}
 use Rattle.sheet.specs.Write.{filled}
-use borrow.Author.Rules.{rules}
 use Rattle.sheet.proofs.writer.is_filled.Goals as goal
 
 pub returns : goal.returns

@@ -1,7 +1,6 @@
 -- `is_wrong_count` meets its contract.
 -- Assumes nothing.
 use Rattle.sheet.specs.Write.{wrong_count}
-use borrow.Author.Rules.{rules}
 use Rattle.sheet.proofs.writer.is_wrong_count.Goals as goal
 
 pub returns-then-there : goal.returns-then-there

@@ -2,7 +2,6 @@
 -- Assumes nothing.
 use Rattle.text.proofs.TextLaws.{put_fits}
 use Rattle.sheet.specs.Write.{four_bytes}
-use borrow.Author.Rules.{rules}
 use Rattle.sheet.proofs.writer.put_four.Goals as goal
 
 pub returns : goal.returns

@@ -4,11 +4,10 @@ use mathlib.Core.Path.{◌≡◌, sym, ap, subst}
 use native.Mathlib.Omega.{arith}
 use lib.ListN.{length, get_or}
 use Rattle.text.proofs.TextLaws.{put_length, put_as, put_fits}
-use Rattle.text.proofs.Putting.{Each, each_begins, each_fits, each_next, each_ended}
+use Rattle.text.proofs.Putting.{each_begins, each_fits, each_next, each_ended}
 use Rattle.sheet.proofs.IndexLaws.{length_table, table_at}
 use Rattle.sheet.proofs.Pieces.{up_to}
 use Rattle.sheet.specs.Write.{site_marks, marks_for}
-use borrow.Author.Rules.{rules}
 use Rattle.sheet.proofs.writer.put_marks.Goals as goal
 
 pub loop-i-init : goal.loop-i-init

@@ -4,7 +4,6 @@ use mathlib.Core.List.{[], ◌∷◌}
 use native.Mathlib.Omega.{arith}
 use Rattle.text.proofs.TextLaws.{put_fits, put_length, put_then}
 use Rattle.sheet.specs.Write.{four_bytes, middle_bytes}
-use borrow.Author.Rules.{rules}
 use Rattle.sheet.proofs.writer.put_middle.Goals as goal
 
 pub returns : goal.returns

@@ -1,6 +1,5 @@
 -- `put_record` meets its contract: piece after piece.
 -- Assumes nothing.
-use Prim.Native.Nat.{◌-◌}
 use native.Mathlib.Omega.{arith}
 use lib.ListN.{take}
 use lib.Seq.{length-take-le}

@@ -4,7 +4,6 @@ use mathlib.Core.List.{[], ◌∷◌}
 use native.Mathlib.Omega.{arith}
 use Rattle.text.proofs.TextLaws.{put_fits, put_length, put_then}
 use Rattle.sheet.specs.Write.{four_bytes, transition_bytes}
-use borrow.Author.Rules.{rules}
 use Rattle.sheet.proofs.writer.put_transition.Goals as goal
 
 pub put_four-written-requires : goal.put_four-written-requires

@@ -1,11 +1,10 @@
 -- What is left to show.
-use Prim.Native.Nat.{◌-◌}
 use mathlib.Core.Path.{◌≡◌, sym, ap}
 use native.Mathlib.Omega.{arith}
 use lib.ListN.{length, get_or, take}
 use lib.Seq.{length-take-le, get_or-take}
 use Rattle.text.proofs.TextLaws.{put_length, put_as}
-use Rattle.text.proofs.Putting.{Each, each_begins, each_fits, each_next, each_ended}
+use Rattle.text.proofs.Putting.{each_begins, each_fits, each_next, each_ended}
 use Rattle.sheet.specs.Record.{no_transition}
 use Rattle.sheet.specs.Write.{transition_bytes}
 use Rattle.sheet.proofs.WriteLaws.{transition_length, transitions_length}

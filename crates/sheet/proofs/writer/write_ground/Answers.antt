@@ -3,7 +3,6 @@
 use mathlib.Core.Path.{sym, ◌∙◌}
 use Rattle.sheet.specs.Write.{write_ground}
 use Rattle.sheet.proofs.WriteLaws.{sites_among, moves_few}
-use borrow.Author.Rules.{rules}
 use Rattle.sheet.proofs.writer.write_ground.Goals as goal
 
 pub returns-then-has_wrong_counts : goal.returns-then-has_wrong_counts
