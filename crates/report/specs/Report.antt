@@ -86,7 +86,7 @@ tolerance_line t = cond (eqb t 0) (said "tolerance not stated\n") (flatten (said
 
 -- "`refused N`", N the ground
 unfoldable pub refused_line : ℕ → List ℕ
-refused_line ground = flatten (said "refused " ∷ decimal ground ∷ said "\n" ∷ [])
+refused_line why = flatten (said "refused " ∷ decimal why ∷ said "\n" ∷ [])
 
 -- ---- the whole
 
