@@ -10,14 +10,14 @@ use lib.ListN.{length, get_or, set, length-set, length-map}
 use lib.Seq.{set-get_or, set_out}
 use borrow.Author.Tests.{eqb-true}
 use native.Mathlib.Omega.{arith}
-use Rattle.sets.specs.Sets.{is_site, has, union, minus, without, with_site}
+use Rattle.sets.specs.Sets.{is_site, has, minus, without, with_site}
 use Rattle.sets.proofs.SetLaws.{site_is, has_with}
 use Rattle.sets.proofs.Truths.{and_l, and_r}
 use Rattle.sets.proofs.SubsetLaws.{minus_lt, union_lt}
 use Rattle.site.specs.declared.Site.{Site}
 use Rattle.run.specs.declared.Run.{Run}
 use Rattle.run.specs.declared.Effect.{Effect}
-use Rattle.run.specs.Run.{no_site, site_at, has_row, place, receivers, outstanding, has_stopped, taken_in, sent_in, stopped_in, remade, with_record, taken_out, sent_by, stopped_at}
+use Rattle.run.specs.Run.{no_site, site_at, has_row, place, outstanding, has_stopped, taken_in, sent_in, stopped_in, remade, with_record, taken_out, sent_by, stopped_at}
 use Rattle.run.specs.Event.{halting, halted_at, applied}
 use Rattle.run.proofs.RunSteps.{set_either}
 use Rattle.run.proofs.SoundLaws.{Bytes}

@@ -2,13 +2,7 @@
 -- Assumes nothing.
 use Prim.Native.Nat.{ℕ}
 use mathlib.Core.Bool.{false}
-use mathlib.Core.List.{[], ◌∷◌}
-use mathlib.Core.Logic.{inl, inr}
 use mathlib.Core.Path.{◌≡◌, refl}
-use native.Mathlib.Omega.{arith}
-use types.Run.{OneOf}
-use denote.Enum.Declared.{tag_of}
-use Rattle.site.specs.contracts.Outcome.{the_type}
 use Rattle.site.specs.declared.Outcome.{Outcome}
 use Rattle.site.specs.declared.Outcome.TheVariants.{Taken, Passed, Refused}
 use Rattle.site.specs.declared.Answer.{Answer}
@@ -19,12 +13,12 @@ use Rattle.run.specs.Sound.{sound_run}
 use Rattle.run.specs.Event.{refused_run, event_of}
 use Rattle.run.specs.Reply.{reply_from}
 
--- taken or passed over, by the variant's number: what the code knows of an outcome that is not refused
+-- taken or passed over: what the code knows of an outcome that is not refused
 abbrev pub Accepted : Outcome → Type 0
-Accepted o = OneOf (0 ∷ 1 ∷ []) (tag_of the_type o)
+Accepted o = (g : ℕ) → o ≡ Refused g → ⊥
 
 pub refused_not : (g : ℕ) → Accepted (Refused g) → ⊥
-refused_not g h = elim h [ inl e ↦ omega arith | inr e ↦ omega arith ]
+refused_not g h = h g refl
 
 pub reply_good : (o : Outcome) (a : Answer) → Accepted o → reply_from o a ≡ Good a
 reply_good Taken a h = refl

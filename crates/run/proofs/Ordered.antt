@@ -26,13 +26,13 @@ use Rattle.site.proofs.SiteMessages.{other_parts, lower_known_lem, known_lower, 
 use Rattle.site.proofs.SiteLaws.{step_changes, sound_kept as site_kept, grows_has}
 use Rattle.run.specs.declared.Run.{Run}
 use Rattle.run.specs.declared.Event.{Event}
-use Rattle.run.specs.declared.Event.TheVariants.{Act, Stop, Cut}
+use Rattle.run.specs.declared.Event.TheVariants.{Act}
 use Rattle.run.specs.declared.Effect.{Effect}
 use Rattle.run.specs.Run.{site_at, leader_of, knows, outstanding, has_stopped}
 use Rattle.run.specs.Sound.{SoundPlace, SoundMessage, Sound}
 use Rattle.run.specs.Event.{actor, halting, effect_of, applied}
 use Rattle.run.proofs.Views.{Shape}
-use Rattle.run.proofs.Account.{Able, Acting, Accepted, able_of, actor_least, actor_in, actor_most}
+use Rattle.run.proofs.Account.{Able, Acting, Accepted, actor_least, actor_in}
 use Rattle.run.proofs.Account.Accepted.{acts, stops, cuts}
 use Rattle.run.proofs.Applied.{takes_out, writes, stops_at, Written, written, Fits, Applied, set_applied, applied_is}
 

@@ -22,7 +22,7 @@ use Rattle.run.specs.declared.Ran.{Ran}
 use Rattle.run.specs.declared.Reply.{Reply}
 use Rattle.run.specs.declared.Reply.TheVariants.{Good, Bad}
 use Rattle.run.specs.Run.{site_at, outstanding, knows, has_stopped}
-use Rattle.run.specs.Event.{is_actor, is_there, step_ground, whole_step, halting, applied, refused_run, taken_run, unless, happened, goes_of}
+use Rattle.run.specs.Event.{is_actor, is_there, step_ground, whole_step, halting, applied, refused_run, taken_run, unless, goes_of}
 use Rattle.run.specs.Reply.{there_in, step_ground_in, reply_from, or_else, reply_of}
 
 -- the news of a site are the stopped sites that it does not know of

@@ -1,18 +1,18 @@
 -- Theorems about every event of every run: refusals, stops inside a step, how the views change, what is left alone, and that
 -- a and c are never left. (SoundLaws says what soundness means, GoodRuns that it is kept.)
 -- Assumes nothing.
-use Prim.Native.Nat.{ℕ, zero, suc, ◌-◌, ◌≤◌}
+use Prim.Native.Nat.{ℕ, ◌-◌, ◌≤◌}
 use mathlib.Core.Bool.{Bool, true, false, cond, not, ◌&&◌, ◌||◌}
 use mathlib.Core.Path.{◌≡◌, refl, sym, ap, subst, ◌∙◌}
-use mathlib.Core.Logic.{◌≢◌, ◌⊎◌, inl, inr, ⊎_elim}
+use mathlib.Core.Logic.{◌≢◌, ⊎_elim}
 use native.Mathlib.Omega.{arith}
 use lib.Dec.{eqb, lit<}
-use lib.ListN.{get_or, set}
-use borrow.Author.Tests.{ne_eqb, eqb-true}
-use Rattle.sets.specs.Sets.{has, both}
+use lib.ListN.{get_or}
+use borrow.Author.Tests.{ne_eqb}
+use Rattle.sets.specs.Sets.{has}
 use Rattle.sets.proofs.SetLaws.{has_none, has_both}
 use Rattle.sets.proofs.SubsetLaws.{both_lt}
-use Rattle.sets.proofs.Truths.{and_l, and_r, or_e, or_r, not_e, clash}
+use Rattle.sets.proofs.Truths.{and_l, and_r, or_e, or_r, clash}
 use Rattle.site.specs.declared.State.TheVariants.{A, C}
 use Rattle.site.specs.declared.Site.{Site}
 use Rattle.site.specs.declared.Outcome.{Outcome}
@@ -32,7 +32,7 @@ use Rattle.run.specs.Event.{actor, step_ground, refused_run, effect_of, applied,
 use Rattle.run.specs.After.{accepted_by}
 use Rattle.run.proofs.RunSteps.{set_either}
 use Rattle.run.proofs.Views.{Shape, is_place, parts_place}
-use Rattle.run.proofs.Account.{Able, Acting, Accepted, able_of, actor_least, actor_most, Why, why, Account, account, accepted_then, happens, Refuses, fate, then_accepted}
+use Rattle.run.proofs.Account.{Able, Accepted, actor_least, actor_most, Why, why, Account, account, happens, Refuses, fate, then_accepted}
 use Rattle.run.proofs.Account.Accepted.{acts, stops, cuts}
 use Rattle.run.proofs.Account.Why.{fine, misnamed, stopped, missing, own}
 use Rattle.run.proofs.Account.Account.{accepted, denied}

@@ -2,7 +2,7 @@
 -- Each change has one law for each view that it touches; the other views it leaves as they are, by definition.
 -- Assumes nothing.
 use Prim.Native.Nat.{ℕ, ◌+◌, ◌-◌, ◌*◌, ◌≤◌}
-use mathlib.Core.Bool.{Bool, true, false, cond, not, ◌&&◌, ◌||◌, false≢true, or-false, and-true, and_assoc}
+use mathlib.Core.Bool.{Bool, true, false, cond, not, ◌&&◌, ◌||◌, or-false, and-true}
 use mathlib.Core.Path.{◌≡◌, refl, sym, ap, ◌∙◌}
 use mathlib.Core.Logic.{◌≢◌}
 use mathlib.Core.List.{List}
@@ -11,13 +11,13 @@ use native.Mathlib.Decide.{ℕ_discrete}
 use lib.Dec.{eqb, leb}
 use lib.ListN.{length, get_or, set, length-set, length-map, get_or-eq_default, get_or-map}
 use lib.Seq.{set_out, get_or-set_same, get_or-set_other}
-use borrow.Author.Tests.{le-leb, leb-true, eq-eqb, ne_eqb, eqb-true}
-use Rattle.sets.specs.Sets.{is_site, has, union, minus, both, without, with_site}
-use Rattle.sets.proofs.SetLaws.{is_site_lem, site_is, has_none, has_union, has_both, has_minus, has_without, has_with}
+use borrow.Author.Tests.{le-leb, leb-true, eq-eqb, ne_eqb}
+use Rattle.sets.specs.Sets.{is_site, has, union, minus, without}
+use Rattle.sets.proofs.SetLaws.{is_site_lem, site_is, has_none, has_union, has_minus, has_without, has_with}
 use Rattle.sets.proofs.Truths.{and_l, and_r}
 use Rattle.site.specs.declared.Site.{Site}
 use Rattle.run.specs.declared.Run.{Run}
-use Rattle.run.specs.Run.{no_site, site_at, has_row, place, receivers, outstanding, has_stopped, stopped_in, with_record, with_net, taken_out, sent_by, stopped_at}
+use Rattle.run.specs.Run.{no_site, site_at, has_row, place, receivers, outstanding, has_stopped, stopped_in, with_record, taken_out, sent_by, stopped_at}
 
 -- a run has eight places for records and 72 for messages, and keeps them
 pub record Shape (r : Run) : Type 0 where

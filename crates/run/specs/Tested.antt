@@ -1,7 +1,7 @@
 -- A run with what its test found: a sound run with its leaders in order stays so (`good_kept` in proofs/GoodRuns), so its soundness need not be
 -- tested again at each event. Only `run` can make such a value.
 -- Assumes nothing.
-use Rattle.std.specs.Prelude.{ℕ, ◌+◌, Bool, true, false, cond, not, ◌&&◌, ◌||◌, eqb, leb}
+use Rattle.std.specs.Prelude.{ℕ, ◌+◌, Bool, cond, not, ◌&&◌, ◌||◌, eqb, leb}
 use Rattle.sets.specs.Sets.{subset, below_of}
 use Rattle.run.specs.declared.Run.{Run}
 use Rattle.run.specs.declared.Event.{Event}

@@ -1,0 +1,13 @@
+-- `run::net::sound_entry` meets its contract.
+-- Assumes nothing.
+use mathlib.Core.Bool.{true≢false}
+use mathlib.Core.Path.{sym, ◌∙◌}
+use Rattle.sets.proofs.SetLaws.{subset_of, has_none}
+use borrow.Author.Rules.{rules}
+use Rattle.run.proofs.net.sound_entry.Goals as goal
+
+pub returns-then-to-eq0 : goal.returns-then-to-eq0
+returns-then-to-eq0 c = sym (subset_of _ _ (search rules) (λ j h. absurd (true≢false (sym h ∙ simp c.if-to-eq0.true (has_none j)))))
+
+pub returns : goal.returns
+returns c = simp (c.subset.ensures, c.minus.ensures, c.may_reach.ensures)
