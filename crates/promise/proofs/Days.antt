@@ -161,7 +161,7 @@ module _ (n : ℕ) (least : 2 ≤ n) (most : n ≤ 8) where
     stopped_of l i h = ap (λ (w : Run). has_stopped w i) (later l) ∙ of_events.stopped_stays events (as_calls r l).events i (sym (stopped_as i) ∙ h)
 
     voted_of : (i : ℕ) → IsSite n i → state_of r i ≡ C → (es : List Event) × (r ≡ reached n es) × ((j : ℕ) → IsSite n j → Voted (fresh_of n).run es j)
-    voted_of i p c = (events, tale.run, of_events.all_voted_lem events i p (sym (state_as i) ∙ c))
+    voted_of i p c = (events, tale.run, of_events.all_voted events i p (sym (state_as i) ∙ c))
 
     stops_of : ((e : Event) → Accepts r e → IsStop e) → (i : ℕ) → IsSite n i → has_stopped r i ≡ false → (state_of r i ≡ C) ⊎ (state_of r i ≡ A)
     stops_of only i p h =
@@ -187,7 +187,7 @@ module _ (n : ℕ) (least : 2 ≤ n) (most : n ≤ 8) where
         commit_stays = commit_of;
         abort_stays = abort_of;
         stopped_stays = stopped_of;
-        all_voted_lem = voted_of;
+        all_voted = voted_of;
         only_stops_left = stops_of;
         event_bound = bound_of;
         never_conflict = conflict_of;

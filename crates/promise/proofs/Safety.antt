@@ -32,11 +32,11 @@ module _ (a : View) (j : ℕ) (v : Inv a) (r : a.runs j) where
 
   -- site j in its first phase in w, to which all others said Yes, may prepare
   module _ (f : First a.by j (a.st j) (a.ld j)) (w : a.st j ≡ W) (h : (i : ℕ) → i ≢ j → a.live Yes i j ⊎ a.voted i) where
-    all_voted_lem : (i : ℕ) → a.voted i
-    all_voted_lem = by_site a.voted j (v.waiting j (r, f) (rw w tt)) (λ i e. ⊎_elim (v.yes i j) (λ x. x) (h i e))
+    all_voted : (i : ℕ) → a.voted i
+    all_voted = by_site a.voted j (v.waiting j (r, f) (rw w tt)) (λ i e. ⊎_elim (v.yes i j) (λ x. x) (h i e))
 
     none_aborted : EA a → ⊥
-    none_aborted e = ⊎_elim (λ x. x) (λ u. u.muted.silent (all_voted_lem u.site)) ((v.aborted e).barred j (r, f))
+    none_aborted e = ⊎_elim (λ x. x) (λ u. u.muted.silent (all_voted u.site)) ((v.aborted e).barred j (r, f))
 
   -- a leader j that all other running sites have acknowledged
   module _ (l : Lead a j) (h : (i : ℕ) → i ≢ j → a.runs i → a.live Ack i j) where
@@ -180,11 +180,11 @@ module _ (a : View) (j : ℕ) (v : Inv a) (r : a.runs j) where
   safe d (central b (start_yes h ne q m t)) = q_waits q
   safe d (central b (start_no h ne q m t)) = q_aborts q
   safe d (central b (give_up e w l t)) = safe_a a (by_open a j v r b (d.central b) (coordinates b e, rw w tt))
-  safe d (central b (prepare e w l h t)) = let f : First a.by j (a.st j) (a.ld j) = (coordinates b e, rw w tt) in safe_p a (all_voted_lem a j v r f w h) (none_aborted a j v r f w h)
+  safe d (central b (prepare e w l h t)) = let f : First a.by j (a.st j) (a.ld j) = (coordinates b e, rw w tt) in safe_p a (all_voted a j v r f w h) (none_aborted a j v r f w h)
   safe d (peers b (peer_yes q l t)) = q_waits q
   safe d (peers b (peer_no q l t)) = q_aborts q
   safe d (peers b (peer_ends w l i m z)) = safe_a a (by_no a j v r i m)
-  safe d (peers b (peer_prepares w l h t)) = let f : First a.by j (a.st j) (a.ld j) = (peer b l, rw w tt) in safe_p a (all_voted_lem a j v r f w h) (none_aborted a j v r f w h)
+  safe d (peers b (peer_prepares w l h t)) = let f : First a.by j (a.st j) (a.ld j) = (peer b l, rw w tt) in safe_p a (all_voted a j v r f w h) (none_aborted a j v r f w h)
   safe d (peers b (peer_commits p l h z)) = safe_c a (v.prepared (seen j (rw p tt))) (all_commit a v (d.peers b) (all_prepared p l h))
   safe d (shared c) = safe_shared c
 

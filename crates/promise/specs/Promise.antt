@@ -21,7 +21,7 @@ pub record Promise (n : ℕ) : Type 0 where
   pub abort_stays : (es fs : List Event) (i : ℕ) → state_of (reached n es) i ≡ A → state_of (reached n (es ++ fs)) i ≡ A
   pub stopped_stays : (es fs : List Event) (i : ℕ) → has_stopped (reached n es) i ≡ true → has_stopped (reached n (es ++ fs)) i ≡ true
   -- None commits unless all n voted yes.
-  pub all_voted_lem : (es : List Event) (i : ℕ) → IsSite n i → state_of (reached n es) i ≡ C → (j : ℕ) → IsSite n j → Voted (fresh_of n).run es j
+  pub all_voted : (es : List Event) (i : ℕ) → IsSite n i → state_of (reached n es) i ≡ C → (j : ℕ) → IsSite n j → Voted (fresh_of n).run es j
   -- When only stops could still be accepted, every site not stopped has decided.
   pub only_stops_left : (es : List Event) → ((e : Event) → Accepts (reached n es) e → IsStop e)
       → (i : ℕ) → IsSite n i → has_stopped (reached n es) i ≡ false → (state_of (reached n es) i ≡ C) ⊎ (state_of (reached n es) i ≡ A)
@@ -43,7 +43,7 @@ pub record DayPromise (n : ℕ) : Type 0 where
   pub abort_stays : {r : Run} {k : ℕ} → ByCalls n r k → (l : List ℕ) (i : ℕ) → state_of r i ≡ A → state_of (day_of r l).run i ≡ A
   pub stopped_stays : {r : Run} {k : ℕ} → ByCalls n r k → (l : List ℕ) (i : ℕ) → has_stopped r i ≡ true → has_stopped (day_of r l).run i ≡ true
   -- Some list of events that reaches the same run has all the votes.
-  pub all_voted_lem : {r : Run} {k : ℕ} → ByCalls n r k → (i : ℕ) → IsSite n i → state_of r i ≡ C
+  pub all_voted : {r : Run} {k : ℕ} → ByCalls n r k → (i : ℕ) → IsSite n i → state_of r i ≡ C
       → (es : List Event) × (r ≡ reached n es) × ((j : ℕ) → IsSite n j → Voted (fresh_of n).run es j)
   pub only_stops_left : {r : Run} {k : ℕ} → ByCalls n r k → ((e : Event) → Accepts r e → IsStop e)
       → (i : ℕ) → IsSite n i → has_stopped r i ≡ false → (state_of r i ≡ C) ⊎ (state_of r i ≡ A)
