@@ -5,7 +5,7 @@ use mathlib.Core.List.{List, [], ◌∷◌, ◌++◌, flatten}
 use mathlib.Core.Path.{◌≡◌, ap, ◌∙◌}
 use native.Mathlib.Omega.{arith}
 use lib.ListN.{length, drop, length-append}
-use Rattle.text.specs.Text.{Put, end_of, spliced}
+use Rattle.text.specs.Text.{end_of, spliced}
 use Rattle.text.proofs.Putting.{begin, next_by, ended}
 use Rattle.embed.specs.DayCall.{day_answer}
 
