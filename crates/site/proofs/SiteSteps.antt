@@ -22,7 +22,7 @@ use Rattle.site.specs.declared.Step.{Step}
 use Rattle.site.specs.declared.Step.TheVariants.{Begin, Start, Deliver, Notice, TakeOver, Conclude}
 use Rattle.site.specs.Site.{is_q, is_w, is_p, in_state, following, knowing, with_acked, named, sound_of, is_order, ends_of, to_all, in_run, names_of, leads, polls, collects, awaited_of, refused, passed, taken}
 use Rattle.site.specs.First.{begun, begin_of, voted, start_of, noted, vote_of, tally_of}
-use Rattle.site.specs.Leader.{move_pat, move_wat, commit_at, abort_at, order_at, obeyed, obey_of, ack_of, over_in, take_over_of, settle_of}
+use Rattle.site.specs.Leader.{move_p_at, move_w_at, commit_at, abort_at, order_at, obeyed, obey_of, ack_of, over_in, take_over_of, settle_of}
 use Rattle.site.specs.Step.{notice_of, conclude_of, deliver_of, rule_of, done_of}
 use Rattle.site.proofs.SiteFacts.{others, SoundSite, lower_known, Ends, Moves, Follows, Change, Outward, Fit, Orders, Did, Sends}
 use Rattle.site.proofs.SiteFacts.Ends.{start, yes as ends_yes, no as ends_no, move_p, move_w, ack, commit, abort}
@@ -156,14 +156,14 @@ data Lawful (q : State) : Order → Type 0 where
   over : Lawful q Over
   conflict : Lawful q Conflict
 
-lawful_p : (q : State) → Lawful q (move_pat q)
+lawful_p : (q : State) → Lawful q (move_p_at q)
 lawful_p Q = conflict
 lawful_p W = goes w_p
 lawful_p P = goes stays
 lawful_p A = conflict
 lawful_p C = goes stays
 
-lawful_w : (q : State) → Lawful q (move_wat q)
+lawful_w : (q : State) → Lawful q (move_w_at q)
 lawful_w Q = goes q_w
 lawful_w W = goes stays
 lawful_w P = goes p_w

@@ -14,20 +14,20 @@ use Rattle.site.specs.Site.{is_p, in_state, following, with_acked, move_p, move_
 -- ---- orders, state by state
 
 -- "Move-p: w goes to p; p and c stay; Ack to the sender. In q or a a conflict"
-abbrev pub move_pat : State → Order
-move_pat Q = Conflict
-move_pat W = To P
-move_pat P = To P
-move_pat A = Conflict
-move_pat C = To C
+abbrev pub move_p_at : State → Order
+move_p_at Q = Conflict
+move_p_at W = To P
+move_p_at P = To P
+move_p_at A = Conflict
+move_p_at C = To C
 
 -- "Move-w: q and p go to w (q without a vote); w and a stay; Ack. In c a conflict"
-abbrev pub move_wat : State → Order
-move_wat Q = To W
-move_wat W = To W
-move_wat P = To W
-move_wat A = To A
-move_wat C = Conflict
+abbrev pub move_w_at : State → Order
+move_w_at Q = To W
+move_w_at W = To W
+move_w_at P = To W
+move_w_at A = To A
+move_w_at C = Conflict
 
 -- "Commit: p goes to c, c passes it over"; elsewhere a conflict
 abbrev pub commit_at : State → Order
@@ -46,7 +46,7 @@ abort_at A = Over
 abort_at C = Conflict
 
 abbrev pub order_at : ℕ → State → Order
-order_at k q = cond (eqb k move_p) (move_pat q) (cond (eqb k move_w) (move_wat q) (cond (eqb k commit) (commit_at q) (abort_at q)))
+order_at k q = cond (eqb k move_p) (move_p_at q) (cond (eqb k move_w) (move_w_at q) (cond (eqb k commit) (commit_at q) (abort_at q)))
 
 -- ---- an order obeyed
 

@@ -6,7 +6,7 @@ ghost use Rattle.std.specs.Prelude.{◌≡◌, ◌&&◌, eqb, ltb};
 ghost use Rattle.sets.specs.Sets.{below_of, subset};
 ghost use Rattle.site.specs.Site.{is_q, is_w, is_p, in_state, sound_of, ends_of, to_all, in_run, names_of, polls, collects, awaited_of, refused, passed, taken};
 ghost use Rattle.site.specs.First.{begin_of, start_of, vote_of, tally_of};
-ghost use Rattle.site.specs.Leader.{move_pat, move_wat, commit_at, abort_at, order_at, replied, obey_of, ack_of, over_in, take_over_of, settle_of};
+ghost use Rattle.site.specs.Leader.{move_p_at, move_w_at, commit_at, abort_at, order_at, replied, obey_of, ack_of, over_in, take_over_of, settle_of};
 ghost use Rattle.site.specs.Step.{notice_of, conclude_of, deliver_of, rule_of, done_of, kind_of, counted, counts_of, answered, step_of};
 
 // The states: first, wait, prepared, abort, commit.
@@ -163,7 +163,7 @@ fn ends(kind: u8, from: u8, to: u8) -> bool
 
 // The orders of a leader, state by state.
 fn move_p_at(state: State) -> Order
-    ensures { result ≡ move_pat state }
+    ensures { result ≡ move_p_at state }
 {
     match state {
         State::Q => Order::Conflict,
@@ -175,7 +175,7 @@ fn move_p_at(state: State) -> Order
 }
 
 fn move_w_at(state: State) -> Order
-    ensures { result ≡ move_wat state }
+    ensures { result ≡ move_w_at state }
 {
     match state {
         State::Q => Order::To(State::W),
