@@ -4,7 +4,7 @@
 ghost use Rattle.std.specs.Prelude.{◌≤◌, length};
 ghost use Rattle.report.specs.Report.{longest, ToldWhole};
 
-use libc::{STDERR_FILENO, STDIN_FILENO, STDOUT_FILENO};
+use std::io::{Read, Write};
 
 // The whole report stands at the front of the room, which is never too small, and never says that words are missing; its length comes back.
 fn reported(input: &[u8], words: &mut [u64], text: &mut [u8]) -> usize
@@ -14,16 +14,29 @@ fn reported(input: &[u8], words: &mut [u64], text: &mut [u8]) -> usize
     report::report(input, words, text)
 }
 
-fn main() {
-    let mut input = io::large_buffer();
-    let size = io::read_full(STDIN_FILENO, &mut input);
+// Reads until the room is full, the input ends or a read fails; how many bytes stand at its front comes back.
+fn read_full(input: &mut impl Read, room: &mut [u8]) -> usize
+    ensures { result ≤ length room.new }
+{
+    let mut done = 0;
+    while done < room.len() {
+        match input.read(&mut room[done..]) {
+            Ok(0) | Err(_) => break,
+            Ok(n) => done += n,
+        }
+    }
+    done
+}
+
+fn main(rt: HostRuntime) {
+    let mut input = [0u8; 65536];
+    let size = read_full(&mut rt.stdin(), &mut input);
     let mut words = [0u64; 4096];
     let mut text = [0u8; report::LONGEST];
     let length = reported(&input[..size], &mut words, &mut text);
-    if !io::write_all(STDOUT_FILENO, &text[..length]) {
-        io::write_all(
-            STDERR_FILENO,
-            b"sheets: the report could not be written to its end\n",
-        );
+    if rt.stdout().write_all(&text[..length]).is_err() {
+        let _ = rt
+            .stderr()
+            .write_all(b"sheets: the report could not be written to its end\n");
     }
 }
