@@ -2,7 +2,7 @@
  * fjadrimor.h - a proved three-phase commit for two to eight sites, its event journal, and a judge,
  * a reader and a writer of commit protocols, on numbers and bytes.
  *
- * Link with the archive that `rt staticlib embed` writes, target/staticlib/libembed.a (x86-64
+ * Link with the archive that `checks/build embed` makes, target/staticlib/libembed.a (x86-64
  * Linux). It needs memcpy and memset, and less than 64 KB of stack. No call allocates, keeps a
  * pointer, does input or output, or has state of its own: calls on different memory may be made
  * from any number of threads.

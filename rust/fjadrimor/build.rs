@@ -1,5 +1,5 @@
 //! Finds the proved static library `libembed.a`: in the folder that FJ_LIB_DIR names, or else in this
-//! repository's own target folder, where `rt staticlib embed` writes it.
+//! repository's own target folder, where `checks/build embed` puts it.
 //!
 //! Where it is not there, a warning says what to run. The build goes on: what links nothing, such as
 //! `cargo check` and `cargo doc`, needs no archive, and whatever does is refused by the compiler.
@@ -20,7 +20,7 @@ fn main() {
     if !archive.is_file() {
         let (archive, repository) = (archive.display(), repository.display());
         println!(
-            "cargo:warning=there is no {archive}: run `rt staticlib embed` in {repository}, or \
+            "cargo:warning=there is no {archive}: run `checks/build embed` in {repository}, or \
              name the folder of the archive in FJ_LIB_DIR, by its whole path"
         );
     }
