@@ -1,0 +1,2 @@
+-- The refusals. Assumes nothing.
+pub mod Refusals
