@@ -4,7 +4,7 @@
 ghost use Rattle.std.specs.Prelude.{◌≤◌, length};
 ghost use Rattle.transcript.specs.Transcript.{room_for, ShownWhole};
 
-use std::io::{Read, Write};
+use std::io::Write;
 
 // The whole text of a rehearsal stands at the front of the room, which is never too small; its length comes back.
 fn rehearsed(input: &[u8], text: &mut [u8]) -> usize
@@ -14,23 +14,9 @@ fn rehearsed(input: &[u8], text: &mut [u8]) -> usize
     transcript::rehearse(input, text)
 }
 
-// Reads until the room is full, the input ends or a read fails; how many bytes stand at its front comes back.
-fn read_full(input: &mut impl Read, room: &mut [u8]) -> usize
-    ensures { result ≤ length room.new }
-{
-    let mut done = 0;
-    while done < room.len() {
-        match input.read(&mut room[done..]) {
-            Ok(0) | Err(_) => break,
-            Ok(n) => done += n,
-        }
-    }
-    done
-}
-
 fn main(rt: HostRuntime) {
     let mut input = [0u8; 65536];
-    let size = read_full(&mut rt.stdin(), &mut input);
+    let size = input::read_full(&mut rt.stdin(), &mut input);
     let mut text = [0u8; transcript::LONGEST];
     let length = rehearsed(&input[..size], &mut text);
     if rt.stdout().write_all(&text[..length]).is_err() {

@@ -4,7 +4,7 @@
 ghost use Rattle.std.specs.Prelude.{◌≤◌, length};
 ghost use Rattle.report.specs.Report.{longest, ToldWhole};
 
-use std::io::{Read, Write};
+use std::io::Write;
 
 // The whole report stands at the front of the room, which is never too small, and never says that words are missing; its length comes back.
 fn reported(input: &[u8], words: &mut [u64], text: &mut [u8]) -> usize
@@ -14,23 +14,9 @@ fn reported(input: &[u8], words: &mut [u64], text: &mut [u8]) -> usize
     report::report(input, words, text)
 }
 
-// Reads until the room is full, the input ends or a read fails; how many bytes stand at its front comes back.
-fn read_full(input: &mut impl Read, room: &mut [u8]) -> usize
-    ensures { result ≤ length room.new }
-{
-    let mut done = 0;
-    while done < room.len() {
-        match input.read(&mut room[done..]) {
-            Ok(0) | Err(_) => break,
-            Ok(n) => done += n,
-        }
-    }
-    done
-}
-
 fn main(rt: HostRuntime) {
     let mut input = [0u8; 65536];
-    let size = read_full(&mut rt.stdin(), &mut input);
+    let size = input::read_full(&mut rt.stdin(), &mut input);
     let mut words = [0u64; 4096];
     let mut text = [0u8; report::LONGEST];
     let length = reported(&input[..size], &mut words, &mut text);

@@ -1,0 +1,2 @@
+-- What stands in a room after reading.
+pub mod Input
