@@ -5,33 +5,27 @@
 ghost use Rattle.std.specs.Prelude.{◌≡◌};
 ghost use Rattle.sets.specs.Sets.{weight_of, has, union, both, minus, with_site, without, subset, all_of, others_of, below_of, count_of, lowest_of};
 
-// The set that holds site j alone.
+// The set that holds site j alone, none for a j that no site has. 0 and no Option: `weight_of` (docs/PROMISES.md) says 0.
+#[tactic(auto, using(crate::proofs::SetLaws::shifted), unfolding(crate::specs::Sets::weight_of, crate::specs::Sets::is_site))]
 pub fn weight(j: u8) -> u8
     ensures { result ≡ weight_of j }
 {
-    if j < 1 {
-        return 0;
+    match j {
+        1..=8 => 1u8 << (j - 1),
+        _ => 0,
     }
-    if 8 < j {
-        return 0;
-    }
-    1u8 << (j - 1)
 }
 
 // Is site j in the set?
+#[tactic(auto, unfolding(crate::specs::Sets::has, crate::specs::Sets::is_site, crate::specs::Sets::bit))]
 pub fn member(m: u8, j: u8) -> bool
     ensures { result ≡ has m j }
 {
-    if j < 1 {
-        return false;
-    }
-    if 8 < j {
-        return false;
-    }
-    (m >> (j - 1)) % 2 == 1
+    matches!(j, 1..=8) && (m >> (j - 1)) % 2 == 1
 }
 
 // The sites of either set.
+#[tactic(auto, unfolding(crate::specs::Sets::union))]
 pub fn union(a: u8, b: u8) -> u8
     ensures { result ≡ union a b }
 {
@@ -39,6 +33,7 @@ pub fn union(a: u8, b: u8) -> u8
 }
 
 // The sites of both sets.
+#[tactic(auto, unfolding(crate::specs::Sets::both))]
 pub fn both(a: u8, b: u8) -> u8
     ensures { result ≡ both a b }
 {
@@ -46,6 +41,7 @@ pub fn both(a: u8, b: u8) -> u8
 }
 
 // The sites of a that are not in b: a, less what the two share.
+#[tactic(auto, unfolding(crate::specs::Sets::minus))]
 pub fn minus(a: u8, b: u8) -> u8
     ensures { result ≡ minus a b }
 {
@@ -53,6 +49,7 @@ pub fn minus(a: u8, b: u8) -> u8
 }
 
 // The set with site j in it.
+#[tactic(auto, unfolding(crate::specs::Sets::with_site))]
 pub fn with(m: u8, j: u8) -> u8
     ensures { result ≡ with_site m j }
 {
@@ -60,6 +57,7 @@ pub fn with(m: u8, j: u8) -> u8
 }
 
 // The set with site j out of it.
+#[tactic(auto, unfolding(crate::specs::Sets::without))]
 pub fn without(m: u8, j: u8) -> u8
     ensures { result ≡ without m j }
 {
@@ -67,6 +65,7 @@ pub fn without(m: u8, j: u8) -> u8
 }
 
 // Is every site of a in b?
+#[tactic(auto, unfolding(crate::specs::Sets::subset))]
 pub fn subset(a: u8, b: u8) -> bool
     ensures { result ≡ subset a b }
 {
@@ -74,16 +73,15 @@ pub fn subset(a: u8, b: u8) -> bool
 }
 
 // Sites 1 to n.
+#[tactic(auto, using(crate::proofs::SetLaws::shifted), unfolding(crate::specs::Sets::all_of))]
 pub fn all_of(n: u8) -> u8
     ensures { result ≡ all_of n }
 {
-    if n < 8 {
-        return (1u8 << n) - 1;
-    }
-    255
+    if n < 8 { (1u8 << n) - 1 } else { 255 }
 }
 
 // Sites 1 to n but for site j.
+#[tactic(auto, unfolding(crate::specs::Sets::others_of))]
 pub fn all_others(n: u8, j: u8) -> u8
     ensures { result ≡ others_of n j }
 {
@@ -91,28 +89,29 @@ pub fn all_others(n: u8, j: u8) -> u8
 }
 
 // The sites below site j.
+#[tactic(auto, unfolding(crate::specs::Sets::below_of))]
 pub fn below(j: u8) -> u8
     ensures { result ≡ below_of j }
 {
-    if j < 1 {
-        return 0;
-    }
-    all_of(j - 1)
+    all_of(j.saturating_sub(1))
 }
 
 // How many sites are in the set.
+#[tactic(auto, unfolding(crate::specs::Sets::count_of))]
 pub fn count(m: u8) -> u8
     ensures { result ≡ count_of m }
 {
-    u8::count_ones(m) as u8
+    m.count_ones() as u8
 }
 
-// The lowest site in the set, 0 for none.
+// The lowest site in the set, 0 for none. 0 and no Option: `lowest_of` (docs/PROMISES.md) says 0.
+#[tactic(auto, unfolding(crate::specs::Sets::lowest_of))]
 pub fn lowest(m: u8) -> u8
     ensures { result ≡ lowest_of m }
 {
     if m == 0 {
-        return 0;
+        0
+    } else {
+        m.trailing_zeros() as u8 + 1
     }
-    u8::trailing_zeros(m) as u8 + 1
 }
