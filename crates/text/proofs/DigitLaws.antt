@@ -1,52 +1,62 @@
 -- The digits of a number, put from the last one to the first.
 -- Assumes nothing.
-use Prim.Native.Nat.{ℕ, ◌+◌, ◌-◌, ◌/◌, ◌%◌, ◌≤◌, ◌<◌}
+use Prim.Native.Nat.{ℕ, ◌+◌, ◌/◌, ◌%◌, ◌≤◌, ◌<◌}
 use mathlib.Core.List.{List, [], ◌∷◌, ◌++◌}
 use mathlib.Core.Path.{◌≡◌, refl, sym, ap, ◌∙◌}
 use native.Mathlib.Omega.{arith}
-use lib.ListN.{length, set, length-set}
+use native.Mathlib.Decide.{dec_lt}
+use lib.ListN.{length, set, length-set, length-append}
 use Rattle.text.specs.Text.{over, Put}
 use Rattle.text.specs.Decimal.{decimal}
-use Rattle.text.proofs.TextLaws.{put_byte, over_last}
-use Rattle.text.proofs.DecimalLaws.{decimal_one, decimal_more, width_more}
+use Rattle.text.proofs.TextLaws.{over_last}
+use Rattle.text.proofs.Putting.{put_none}
+use Rattle.text.proofs.DecimalLaws.{decimal_one, decimal_more}
 
--- of the digits of n, those of the number left are still to be put, up to a place
+-- the last digit of a number, and those before it, which are its tens' where there are any
+record Last (n : ℕ) : Type 0 where
+  pub before : List ℕ
+  pub digits : decimal n ≡ before ++ ((48 + n % 10) ∷ [])
+  pub tens : 0 < length before → decimal (n / 10) ≡ before
+
+last_of : (n : ℕ) → Last n
+last_of n = go (dec_lt n 10)
+  where
+    go : Dec (n < 10) → Last n
+    go (yes l) =
+        let one : n ≡ n % 10 = omega arith in
+        record { before = []; digits = decimal_one n l ∙ ap (λ (d : ℕ). (48 + d) ∷ []) one; tens = λ h. absurd (omega arith) }
+    go (no l) = record { before = decimal (n / 10); digits = decimal_more n (omega arith); tens = λ h. refl }
+
+-- of the digits of n, some are still to be put, up to a place; they are those of the number left
 pub record ToPut (text : List ℕ) (at n : ℕ) (last : List ℕ) (left end : ℕ) : Type 0 where
+  pub digits : List ℕ
+  pub number : 0 < length digits → decimal left ≡ digits
   pub long : length last ≡ length text
-  pub room : at + length (decimal left) ≤ length text
-  pub to : end ≡ at + length (decimal left)
-  pub bytes : over last at (decimal left) ≡ over text at (decimal n)
-
--- all are left before the first is put
-pub all_left : (text : List ℕ) (at n to : ℕ) → to ≡ at + length (decimal n) → to ≤ length text → ToPut text at n text n to
-all_left text at n to e h = record { long = refl; room = omega arith; to = e; bytes = refl }
+  pub room : end ≤ length text
+  pub to : end ≡ at + length digits
+  pub bytes : over last at digits ≡ over text at (decimal n)
 
 module _ {text : List ℕ} {at n : ℕ} {last : List ℕ} {left to : ℕ} (p : ToPut text at n last left to) where
   -- the ones are put, and the tens are left
-  pub one_put : (d : ℕ) → 10 ≤ left → d ≡ 48 + left % 10 → ToPut text at n (set last (to - 1) d) (left / 10) (to - 1)
-  one_put d h e =
-      let wide = width_more left h in
-      let here : to - 1 ≡ at + length (decimal (left / 10)) = omega (arith, p.to, wide) in
+  pub one_put : (d place : ℕ) → at < to → to ≡ place + 1 → d ≡ 48 + left % 10 → ToPut text at n (set last place d) (left / 10) place
+  one_put d place h q e =
+      let l = last_of left in
+      let all : p.digits ≡ l.before ++ (d ∷ []) =
+      sym (p.number (omega (arith, p.to))) ∙ l.digits ∙ ap (λ (x : ℕ). l.before ++ (x ∷ [])) (sym e) in
+      let here : place ≡ at + length l.before = omega (arith, p.to, ap length all, length-append l.before (d ∷ [])) in
       record {
-        long = length-set last (to - 1) d ∙ p.long;
-        room = omega (arith, p.room, wide);
+        digits = l.before;
+        number = l.tens;
+        long = length-set last place d ∙ p.long;
+        room = omega (arith, p.room);
         to = here;
-        bytes =
-            over_last last at (decimal (left / 10)) d (to - 1) here (omega (arith, p.room, p.long, here, wide))
-            ∙ ap (λ (x : ℕ). over last at (decimal (left / 10) ++ (x ∷ []))) e
-            ∙ ap (over last at) (sym (decimal_more left h))
-            ∙ p.bytes;
+        bytes = over_last last at l.before d place here (omega (arith, p.room, p.long)) ∙ ap (over last at) (sym all) ∙ p.bytes;
       }
 
-  -- the first digit is the last to be put
-  pub all_put : (d r : ℕ) → left < 10 → d ≡ 48 + left → r ≡ at + length (decimal n) → r ≤ length text → Put text at (decimal n) (set last at d) r
-  all_put d r h e q l =
-      record {
-        room = omega arith;
-        to = q;
-        bytes =
-            (put_byte last at d (omega (arith, p.room, p.long, ap length (decimal_one left h)))).bytes
-            ∙ ap (λ (x : ℕ). over last at (x ∷ [])) e
-            ∙ ap (over last at) (sym (decimal_one left h))
-            ∙ p.bytes;
-      }
+  -- none are left
+  pub all_put : (r : ℕ) → to ≤ at → r ≡ at + length (decimal n) → r ≤ length text → Put text at (decimal n) last r
+  all_put r h q l = record { room = omega arith; to = q; bytes = none p.digits (omega (arith, p.to)) ∙ p.bytes }
+    where
+      none : (ds : List ℕ) → length ds ≡ 0 → last ≡ over last at ds
+      none [] e = (put_none last at (omega (arith, p.to, p.room, p.long))).bytes
+      none (d ∷ ds) e = absurd (omega arith)

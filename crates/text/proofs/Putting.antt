@@ -8,6 +8,7 @@ use native.Mathlib.Nat.{add-zero, add_comm, mul-zero, mul-suc}
 use native.Mathlib.Numerals.{add-one}
 use lib.ListN.{length, get_or, take, drop, length-append, length-map, take-append-drop, drop_of_length-le}
 use lib.Seq.{drop-cons}
+use Rattle.std.specs.List.{flat_map as joined}
 use Rattle.text.specs.Text.{Put, end_of, spliced}
 use Rattle.text.proofs.TextLaws.{put_fits, put_then, put_length}
 
@@ -100,6 +101,12 @@ module _ {A : Type 0} {bytes : A → List ℕ} {n : ℕ} {xs : List A} {text : L
   pub each_ended : n ≤ i → Put text at (flat_map bytes xs) last r
   each_ended h =
       ended (subst (λ (l : List A). Going text at (flat_map bytes xs) (map bytes l) last r) (drop_of_length-le xs {i = i} (omega (arith, e.all))) e.going)
+
+-- rows laid out in one list
+pub rows_joined : {A : Type 0} (row : A → List ℕ) (l : List A) → joined (λ (x : List ℕ). x) (map row l) ≡ flat_map row l
+unfolding flat_map
+rows_joined row [] = refl
+rows_joined row (x ∷ l) = ap (λ (y : List ℕ). row x ++ y) (rows_joined row l)
 
 -- elements of w bytes each
 module _ {A : Type 0} (bytes : A → List ℕ) (w : ℕ) (wide : (x : A) → length (bytes x) ≡ w) where

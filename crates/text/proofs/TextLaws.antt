@@ -8,7 +8,6 @@ use native.Mathlib.Omega.{arith}
 use borrow.Author.Tests.{le-leb, lt-leb}
 use lib.Dec.{leb}
 use native.Mathlib.Decide.{dec_lt}
-use native.Mathlib.Numerals.{add-one}
 use lib.ListN.{length, get_or, take, drop, set, length-append, length-drop}
 use lib.Seq.{set_split, take-set-le, drop-cons, drop-drop, take_at, drop_at, length-take-le}
 use Rattle.text.specs.Text.{fits, over, spliced, end_of, Put}
@@ -55,10 +54,6 @@ module _ {text : List ℕ} {at : ℕ} {part last : List ℕ} {r : ℕ} (p : Put 
   -- a part may be written in another way
   pub put_as : {other : List ℕ} → part ≡ other → Put text at other last r
   put_as e = subst (λ (l : List ℕ). Put text at l last r) e p
-
--- one byte is put
-pub put_byte : (text : List ℕ) (at b : ℕ) → at < length text → Put text at (b ∷ []) (set text at b) (at + 1)
-put_byte text at b h = record { room = omega arith; to = refl; bytes = set_split text at b h ∙ ap (λ (k : ℕ). take at text ++ (b ∷ drop k text)) (sym (add-one at)) }
 
 -- a part with one byte more is put as that byte, and then the part before it
 pub over_last : (text : List ℕ) (at : ℕ) (part : List ℕ) (b k : ℕ) → k ≡ at + length part → k < length text
