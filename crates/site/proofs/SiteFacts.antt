@@ -7,6 +7,8 @@ use mathlib.Core.Path.{◌≡◌}
 use mathlib.Core.Logic.{◌≢◌, ◌⊎◌}
 use lib.Dec.{eqb}
 use Rattle.sets.specs.Sets.{has, weight_of, with_site, subset, others_of, below_of}
+use Rattle.refusal.specs.declared.Refusal.{Refusal}
+use Rattle.refusal.specs.declared.Refusal.TheVariants.{NotSound, WrongNames, NotAllowed, Conflict}
 use Rattle.site.specs.declared.State.{State}
 use Rattle.site.specs.declared.State.TheVariants.{Q, W, P, A, C}
 use Rattle.site.specs.declared.Site.{Site}
@@ -133,16 +135,16 @@ pub data Ruled : Step → Type 0 where
 pub data Orders : Step → Type 0 where
   order : {k from : ℕ} → is_order k ≡ true → Orders (Deliver k from)
 
--- the grounds of a single step, each where its turn in their order comes
-pub data Ground (s : Site) (t : Step) : ℕ → Type 0 where
-  not_sound : sound_of s ≡ false → Ground s t 1
-  wrong_names : SoundSite s → names_of s t ≡ false → Ground s t 2
-  not_allowed : Fit s t → Ruled t → Ground s t 5
-  in_conflict : Fit s t → Orders t → Ground s t 6
+-- the grounds of a single step, 1, 2, 5 and 6, each where its turn in their order comes
+pub data Ground (s : Site) (t : Step) : Refusal → Type 0 where
+  not_sound : sound_of s ≡ false → Ground s t NotSound
+  wrong_names : SoundSite s → names_of s t ≡ false → Ground s t WrongNames
+  not_allowed : Fit s t → Ruled t → Ground s t NotAllowed
+  in_conflict : Fit s t → Orders t → Ground s t Conflict
 
 -- a step is refused with its ground, passed over, or taken
 pub data Did (s : Site) (t : Step) : Done → Type 0 where
-  refuses : {g : ℕ} → Ground s t g → Did s t (refused s g)
+  refuses : {g : Refusal} → Ground s t g → Did s t (refused s g)
   passes : Fit s t → {l : ℕ} → Follows s l → Did s t (passed (following s l))
   takes : Fit s t → {x : Site} {k m : ℕ} → Change s t x → Wrote s t k m → Did s t (taken x k m)
 

@@ -14,6 +14,9 @@ use Rattle.sets.specs.Sets.{is_site, has, subset, minus, union, count_of, lowest
 use Rattle.sets.proofs.SetLaws.{has_minus, has_with, members, count_is, lowest_is}
 use Rattle.sets.proofs.Truths.{and_r, or_l, fails, either}
 use Rattle.sets.proofs.SubsetLaws.{others_lt, minus_lt, weight_lt, with_within, subset_none, nobody, count_none}
+use Rattle.refusal.specs.declared.Refusal.{Refusal}
+use Rattle.refusal.specs.declared.Refusal.TheVariants.{NotSound, WrongNames}
+use Rattle.refusal.specs.Refusals.{refusal_number}
 use Rattle.site.specs.declared.State.{State}
 use Rattle.site.specs.declared.State.TheVariants.{Q, W, P, A, C}
 use Rattle.site.specs.declared.Site.{Site}
@@ -120,14 +123,14 @@ sound_kept s t e = parts_sound (step_of s t).site (change_sound (step_changes s 
 -- ---- refused and passed over
 
 -- a refusal hands the record back, writes nothing and counts nothing
-pub refused_unchanged : (s : Site) (t : Step) (g : ℕ) → (step_of s t).outcome ≡ Refused g → step_of s t ≡ refusal s g
+pub refused_unchanged : (s : Site) (t : Step) (g : Refusal) → (step_of s t).outcome ≡ Refused g → step_of s t ≡ refusal s g
 unfolding step_of answered
 refused_unchanged s t g e = go (did s t) e
   where
     go : {d : Done} → Did s t d → d.outcome ≡ Refused g → answered d ≡ refusal s g
-    go (refuses {g = h} x) e = let z : h ≡ g = cc in ap (refusal s) z
-    go (passes f h) e = let z : ◌≡◌ {A = ℕ} 0 1 = cc in absurd (omega arith)
-    go (takes f c w) e = let z : ◌≡◌ {A = ℕ} 0 1 = cc in absurd (omega arith)
+    go (refuses {g = h} x) e = cc
+    go (passes f h) e = cc
+    go (takes f c w) e = cc
 
 -- a step passed over writes nothing and changes at most the leader followed
 pub record PassedOver (s : Site) (a : Answer) : Type 0 where
@@ -143,54 +146,54 @@ unfolding step_of answered
 passed_over s t e = go (did s t) e
   where
     go : {d : Done} → Did s t d → d.outcome ≡ Passed → PassedOver s (answered d)
-    go (refuses g) e = let z : ◌≡◌ {A = ℕ} 0 1 = cc in absurd (omega arith)
+    go (refuses g) e = cc
     go (passes f {l} h) e = record { leader = l; follows = h; site = refl; kind = refl; to = refl; written = count_none }
-    go (takes f c w) e = let z : ◌≡◌ {A = ℕ} 0 1 = cc in absurd (omega arith)
+    go (takes f c w) e = cc
 
 -- "A single site step can give 1, 2, 5, 6": each where its place in the order is reached, 5 to Begin, Take over and Conclude only,
 -- and 6 to a delivered order only
-pub grounds : (s : Site) (t : Step) (g : ℕ) → (step_of s t).outcome ≡ Refused g → Ground s t g
+pub grounds : (s : Site) (t : Step) (g : Refusal) → (step_of s t).outcome ≡ Refused g → Ground s t g
 unfolding step_of answered
 grounds s t g e = go (did s t) e
   where
     go : {d : Done} → Did s t d → d.outcome ≡ Refused g → Ground s t g
     go (refuses {g = h} x) e = let z : h ≡ g = cc in rw z at x
-    go (passes f h) e = let z : ◌≡◌ {A = ℕ} 0 1 = cc in absurd (omega arith)
-    go (takes f c w) e = let z : ◌≡◌ {A = ℕ} 0 1 = cc in absurd (omega arith)
+    go (passes f h) e = cc
+    go (takes f c w) e = cc
 
-pub ground_some : (s : Site) (t : Step) (g : ℕ) → (step_of s t).outcome ≡ Refused g → 1 ≤ g
+pub ground_some : (s : Site) (t : Step) (g : Refusal) → (step_of s t).outcome ≡ Refused g → 1 ≤ refusal_number g
 ground_some s t g e = go (grounds s t g e)
   where
-    go : {h : ℕ} → Ground s t h → 1 ≤ h
+    go : {h : Refusal} → Ground s t h → 1 ≤ refusal_number h
     go (not_sound x) = lit≤ tt
     go (wrong_names x y) = lit≤ tt
     go (not_allowed x y) = lit≤ tt
     go (in_conflict x y) = lit≤ tt
 
 -- ground 1 exactly where the record is not sound
-pub ground_1 : (s : Site) (t : Step) → (step_of s t).outcome ≡ Refused 1 ↔ sound_of s ≡ false
+pub ground_1 : (s : Site) (t : Step) → (step_of s t).outcome ≡ Refused NotSound ↔ sound_of s ≡ false
 unfolding step_of answered done_of
-ground_1 s t = (λ e. go (grounds s t 1 e) refl, λ e. rw e refl)
+ground_1 s t = (λ e. go (grounds s t NotSound e) refl, λ e. rw e refl)
   where
-    go : {g : ℕ} → Ground s t g → g ≡ 1 → sound_of s ≡ false
+    go : {g : Refusal} → Ground s t g → g ≡ NotSound → sound_of s ≡ false
     go (not_sound h) e = h
-    go (wrong_names h k) e = absurd (omega arith)
-    go (not_allowed f o) e = absurd (omega arith)
-    go (in_conflict f o) e = absurd (omega arith)
+    go (wrong_names h k) e = absurd (cc)
+    go (not_allowed f o) e = absurd (cc)
+    go (in_conflict f o) e = absurd (cc)
 
 -- ground 2 exactly where it is, and the step names what it must not
-pub ground_2 : (s : Site) (t : Step) → (step_of s t).outcome ≡ Refused 2 ↔ (sound_of s ≡ true) × (names_of s t ≡ false)
+pub ground_2 : (s : Site) (t : Step) → (step_of s t).outcome ≡ Refused WrongNames ↔ (sound_of s ≡ true) × (names_of s t ≡ false)
 unfolding step_of answered done_of
-ground_2 s t = (λ e. go (grounds s t 2 e) refl, λ e. back e.0 e.1)
+ground_2 s t = (λ e. go (grounds s t WrongNames e) refl, λ e. back e.0 e.1)
   where
-    back : sound_of s ≡ true → names_of s t ≡ false → (step_of s t).outcome ≡ Refused 2
+    back : sound_of s ≡ true → names_of s t ≡ false → (step_of s t).outcome ≡ Refused WrongNames
     back e f = rw (e, f) refl
 
-    go : {g : ℕ} → Ground s t g → g ≡ 2 → (sound_of s ≡ true) × (names_of s t ≡ false)
-    go (not_sound h) e = absurd (omega arith)
+    go : {g : Refusal} → Ground s t g → g ≡ WrongNames → (sound_of s ≡ true) × (names_of s t ≡ false)
+    go (not_sound h) e = absurd (cc)
     go (wrong_names h k) e = (parts_sound s h, k)
-    go (not_allowed f o) e = absurd (omega arith)
-    go (in_conflict f o) e = absurd (omega arith)
+    go (not_allowed f o) e = absurd (cc)
+    go (in_conflict f o) e = absurd (cc)
 
 -- ---- what is written
 

@@ -12,6 +12,8 @@ use Rattle.sets.specs.Sets.{is_site, has, subset, below_of}
 use Rattle.sets.proofs.SetLaws.{is_site_lem, site_is, has_site, has_none, has_weight, has_minus, has_others, has_below, subset_has, subset_of}
 use Rattle.sets.proofs.Truths.{and_l, and_r, not_e, clash}
 use Rattle.sets.proofs.SubsetLaws.{all_lt}
+use Rattle.refusal.specs.declared.Refusal.{Refusal}
+use Rattle.refusal.specs.declared.Refusal.TheVariants.{NotSound, NotAllowed}
 use Rattle.site.specs.declared.State.{State}
 use Rattle.site.specs.declared.State.TheVariants.{P, A, C}
 use Rattle.site.specs.declared.Site.{Site}
@@ -177,19 +179,19 @@ concluded s =
     wrote : (q : State) {k : ℕ} → sound_of s ≡ true → Outward s k → Concluded s (taken (in_state s q) k (to_all s))
     wrote q e o = record { sound = e; to = refl; kind = o }
 
-    not_taken : (g : ℕ) → Refused g ≡ Taken → Concluded s (refused s g)
-    not_taken g h = let z : ◌≡◌ {A = ℕ} 0 1 = cc in absurd (omega arith)
+    not_taken : (g : Refusal) → Refused g ≡ Taken → Concluded s (refused s g)
+    not_taken g h = cc
 
     rule : Bool → Bool → Bool → Bool → Bool → Done
     rule b x y z p =
-        cond b (cond x (taken (in_state s A) 8 (to_all s)) (cond y (taken (in_state s P) 4 (to_all s)) (refused s 5)))
-        (cond z (cond p (taken (in_state s C) 7 (to_all s)) (taken (in_state s A) 8 (to_all s))) (refused s 5))
+        cond b (cond x (taken (in_state s A) 8 (to_all s)) (cond y (taken (in_state s P) 4 (to_all s)) (refused s NotAllowed)))
+        (cond z (cond p (taken (in_state s C) 7 (to_all s)) (taken (in_state s A) 8 (to_all s))) (refused s NotAllowed))
 
-    go : (o b x y z p : Bool) → sound_of s ≡ o → (cond o (rule b x y z p) (refused s 1)).outcome ≡ Taken → Concluded s (cond o (rule b x y z p) (refused s 1))
+    go : (o b x y z p : Bool) → sound_of s ≡ o → (cond o (rule b x y z p) (refused s NotSound)).outcome ≡ Taken → Concluded s (cond o (rule b x y z p) (refused s NotSound))
     go true true true y z p e h = wrote A e aborts
     go true true false true z p e h = wrote P e moves_p
-    go true true false false z p e h = not_taken 5 h
+    go true true false false z p e h = not_taken NotAllowed h
     go true false x y true true e h = wrote C e commits
     go true false x y true false e h = wrote A e aborts
-    go true false x y false p e h = not_taken 5 h
-    go false b x y z p e h = not_taken 1 h
+    go true false x y false p e h = not_taken NotAllowed h
+    go false b x y z p e h = not_taken NotSound h

@@ -6,11 +6,13 @@ use mathlib.Core.Path.{◌≡◌, refl, ◌∙◌, subst}
 use mathlib.Core.Logic.{◌≢◌, inl, inr}
 use native.Mathlib.Omega.{arith}
 use lib.Dec.{eqb, leb, ltb}
-use borrow.Author.Tests.{lt-ltb, le-leb, leb-true, ne_eqb, eqb-true, eqb-false, ltb-true, ltb-false}
+use borrow.Author.Tests.{le-leb, leb-true, ne_eqb, eqb-true, eqb-false, ltb-true, ltb-false}
+use Rattle.std.proofs.lemmas.Bool.Decides.{nat_tests}
 use Rattle.sets.specs.Sets.{has, weight_of, union, with_site, subset, all_of, below_of}
 use Rattle.sets.proofs.SetLaws.{site_is, has_others}
 use Rattle.sets.proofs.Truths.{and_l, and_r, not_e}
 use Rattle.sets.proofs.SubsetLaws.{others_lt, union_within, within_l, within_r, subset_none}
+use Rattle.refusal.specs.declared.Refusal.TheVariants.{NotSound, WrongNames, NotAllowed}
 use Rattle.site.specs.declared.State.{State}
 use Rattle.site.specs.declared.State.TheVariants.{Q, W, P, A, C}
 use Rattle.site.specs.declared.Vote.{Vote}
@@ -40,17 +42,6 @@ use Rattle.site.proofs.SiteFacts.Did.{refuses, passes, takes}
 
 -- ---- sound records
 
-seven : (a b c d e f g : Bool) → (a && b && c && d && e && f && g) ≡ true
-    → (a ≡ true) × (b ≡ true) × (c ≡ true) × (d ≡ true) × (e ≡ true) × (f ≡ true) × (g ≡ true)
-seven true true true true true true true h = (refl, refl, refl, refl, refl, refl, refl)
-seven true true true true true true false h = absurd (false≢true h)
-seven true true true true true false g h = absurd (false≢true h)
-seven true true true true false f g h = absurd (false≢true h)
-seven true true true false e f g h = absurd (false≢true h)
-seven true true false d e f g h = absurd (false≢true h)
-seven true false c d e f g h = absurd (false≢true h)
-seven false b c d e f g h = absurd (false≢true h)
-
 module _ (s : Site) where
   abbrev near : ℕ
   near = union s.known s.yes
@@ -58,34 +49,36 @@ module _ (s : Site) where
   abbrev far : ℕ
   far = union s.no s.acked
 
+  bound : others s < 2 ^ 8
+  bound = others_lt s.n s.number
+
   -- the test of soundness gives its parts, and they give the test
   pub sound_parts : sound_of s ≡ true → SoundSite s
   unfolding sound_of
   sound_parts h =
-      let p = seven (leb 2 s.n) (leb s.n 8) (leb 1 s.number) (leb s.number s.n) (leb 1 s.leader) (leb s.leader s.number) (subset (named s) (others s)) h in
-      let l = within_l near far (others s) (others_lt s.n s.number) p.6 in
-      let r = within_r near far (others s) (others_lt s.n s.number) p.6 in
+      let within : subset (named s) (others s) ≡ true = grind (arith, nat_tests) in
+      let l = within_l near far (others s) bound within in
+      let r = within_r near far (others s) bound within in
       record {
-        least = leb-true 2 s.n p.0;
-        most = leb-true s.n 8 p.1;
-        first = leb-true 1 s.number p.2;
-        last = leb-true s.number s.n p.3;
-        led = leb-true 1 s.leader p.4;
-        leader = leb-true s.leader s.number p.5;
-        known = within_l s.known s.yes (others s) (others_lt s.n s.number) l;
-        yes = within_r s.known s.yes (others s) (others_lt s.n s.number) l;
-        no = within_l s.no s.acked (others s) (others_lt s.n s.number) r;
-        acked = within_r s.no s.acked (others s) (others_lt s.n s.number) r;
+        least = grind (arith, nat_tests);
+        most = grind (arith, nat_tests);
+        first = grind (arith, nat_tests);
+        last = grind (arith, nat_tests);
+        led = grind (arith, nat_tests);
+        leader = grind (arith, nat_tests);
+        known = within_l s.known s.yes (others s) bound l;
+        yes = within_r s.known s.yes (others s) bound l;
+        no = within_l s.no s.acked (others s) bound r;
+        acked = within_r s.no s.acked (others s) bound r;
       }
 
   pub parts_sound : SoundSite s → sound_of s ≡ true
   unfolding sound_of
   parts_sound g =
-      simp (le-leb 2 s.n g.least, le-leb s.n 8 g.most, le-leb 1 s.number g.first, le-leb s.number s.n g.last, le-leb 1 s.leader g.led, le-leb s.leader s.number g.leader)
-      (union_within near far (others s) bound (union_within s.known s.yes (others s) bound g.known g.yes) (union_within s.no s.acked (others s) bound g.no g.acked))
-    where
-      bound : others s < 2 ^ 8
-      bound = others_lt s.n s.number
+      let l = union_within s.known s.yes (others s) bound g.known g.yes in
+      let r = union_within s.no s.acked (others s) bound g.no g.acked in
+      let within : subset (named s) (others s) ≡ true = union_within near far (others s) bound l r in
+      grind (arith, nat_tests)
 
 -- ---- ends
 
@@ -116,14 +109,14 @@ ends_parts k from to h = one (eqb k 1) (eqb k 2) (eqb k 3) (eqb k 6) refl refl r
 
 pub parts_ends : {k from to : ℕ} → Ends k from to → ends_of k from to ≡ true
 unfolding ends_of
-parts_ends (start l) = lt-ltb 1 _ l
-parts_ends (ends_yes l) = simp (lt-ltb 1 _ l)
-parts_ends (ends_no l) = simp (lt-ltb 1 _ l)
-parts_ends (move_p l) = lt-ltb _ _ l
-parts_ends (move_w l) = lt-ltb _ _ l
-parts_ends (ack l) = lt-ltb _ _ l
-parts_ends (commit l) = lt-ltb _ _ l
-parts_ends (abort l) = lt-ltb _ _ l
+parts_ends (start l) = grind (arith, nat_tests)
+parts_ends (ends_yes l) = grind (arith, nat_tests)
+parts_ends (ends_no l) = grind (arith, nat_tests)
+parts_ends (move_p l) = grind (arith, nat_tests)
+parts_ends (move_w l) = grind (arith, nat_tests)
+parts_ends (ack l) = grind (arith, nat_tests)
+parts_ends (commit l) = grind (arith, nat_tests)
+parts_ends (abort l) = grind (arith, nat_tests)
 
 -- ---- states by their tests
 
@@ -222,7 +215,7 @@ did_begin s v f = go (eqb s.number 1 && is_q s.state) refl
     begins Yes e q = takes f (turns s (Begin v) f W s.leader (rw q q_w) same) (to_all_lem (starts e) (inl (first_lower s e)))
     begins No e q = takes f (turns s (Begin v) f A s.leader (rw q q_a) same) (to_all_lem aborts (inl (first_lower s e)))
 
-    go : (b : Bool) → (eqb s.number 1 && is_q s.state) ≡ b → Did s (Begin v) (cond b (begun v s) (refused s 5))
+    go : (b : Bool) → (eqb s.number 1 && is_q s.state) ≡ b → Did s (Begin v) (cond b (begun v s) (refused s NotAllowed))
     go true e = begins v (eqb-true s.number 1 (and_l (eqb s.number 1) (is_q s.state) e)) (is_q_lem s.state (and_r (eqb s.number 1) (is_q s.state) e))
     go false e = refuses (not_allowed f begin)
 
@@ -329,7 +322,7 @@ did_take_over s f = go (ltb s.leader s.number && subset (below_of s.number) s.kn
     at A e l k = takes f (heads s TakeOver f s.state stays (itself l k)) (to_all_lem aborts (inl k))
     at C e l k = takes f (heads s TakeOver f s.state stays (itself l k)) (to_all_lem commits (inl k))
 
-    go : (b : Bool) → (ltb s.leader s.number && subset (below_of s.number) s.known) ≡ b → Did s TakeOver (cond b (over_in s.state s) (refused s 5))
+    go : (b : Bool) → (ltb s.leader s.number && subset (below_of s.number) s.known) ≡ b → Did s TakeOver (cond b (over_in s.state s) (refused s NotAllowed))
     go true e =
         at s.state refl (ltb-true s.leader s.number (and_l (ltb s.leader s.number) (subset (below_of s.number) s.known) e)) (and_r (ltb s.leader s.number) (subset (below_of s.number) s.known) e)
     go false e = refuses (not_allowed f take_over)
@@ -341,7 +334,7 @@ did_conclude s f = go (polls s) refl
     concludes : (q : State) (k : ℕ) → s.leader ≡ s.number → Moves s.state q → Outward s k → Did s Conclude (taken (in_state s q) k (to_all s))
     concludes q k l m o = takes f (turns s Conclude f q s.leader m same) (to_all_lem o (inr (record { step = refl; leads = l })))
 
-    tally : s.leader ≡ s.number → s.state ≡ W → (x y : Bool) → Did s Conclude (cond x (taken (in_state s A) 8 (to_all s)) (cond y (taken (in_state s P) 4 (to_all s)) (refused s 5)))
+    tally : s.leader ≡ s.number → s.state ≡ W → (x y : Bool) → Did s Conclude (cond x (taken (in_state s A) 8 (to_all s)) (cond y (taken (in_state s P) 4 (to_all s)) (refused s NotAllowed)))
     tally l e true y = concludes A 8 l (rw e w_a) aborts
     tally l e false true = concludes P 4 l (rw e w_p) moves_p
     tally l e false false = refuses (not_allowed f conclude)
@@ -353,7 +346,7 @@ did_conclude s f = go (polls s) refl
     stands l false false p q h = absurd (false≢true h)
 
     settle : (b : Bool) → (collects s && eqb (awaited_of s) 0) ≡ b
-        → Did s Conclude (cond b (cond (is_p s.state) (taken (in_state s C) 7 (to_all s)) (taken (in_state s A) 8 (to_all s))) (refused s 5))
+        → Did s Conclude (cond b (cond (is_p s.state) (taken (in_state s C) 7 (to_all s)) (taken (in_state s A) 8 (to_all s))) (refused s NotAllowed))
     settle true e =
         let c : (leads s && (is_p s.state || is_w s.state && not (eqb s.number 1))) ≡ true = and_l (collects s) (eqb (awaited_of s) 0) e in
         stands (eqb-true s.leader s.number (and_l (leads s) (is_p s.state || is_w s.state && not (eqb s.number 1)) c)) (is_p s.state) (is_w s.state) refl refl
@@ -392,10 +385,10 @@ pub did : (s : Site) (t : Step) → Did s t (done_of s t)
 unfolding done_of
 did s t = go (sound_of s) refl
   where
-    rule : SoundSite s → (b : Bool) → names_of s t ≡ b → Did s t (cond b (rule_of s t) (refused s 2))
+    rule : SoundSite s → (b : Bool) → names_of s t ≡ b → Did s t (cond b (rule_of s t) (refused s WrongNames))
     rule g true e = did_rule s t (record { sound = g; names = e })
     rule g false e = refuses (wrong_names g e)
 
-    go : (b : Bool) → sound_of s ≡ b → Did s t (cond b (cond (names_of s t) (rule_of s t) (refused s 2)) (refused s 1))
+    go : (b : Bool) → sound_of s ≡ b → Did s t (cond b (cond (names_of s t) (rule_of s t) (refused s WrongNames)) (refused s NotSound))
     go true e = rule (sound_parts s e) (names_of s t) refl
     go false e = refuses (not_sound e)

@@ -3,6 +3,7 @@
 -- Assumes nothing.
 use Rattle.std.specs.Prelude.{ℕ, cond, ◌&&◌, ◌||◌, eqb, ltb}
 use Rattle.sets.specs.Sets.{below_of, with_site, weight_of, subset}
+use Rattle.refusal.specs.declared.Refusal.TheVariants.{NotAllowed, Conflict as in_conflict}
 use Rattle.site.specs.declared.State.{State}
 use Rattle.site.specs.declared.State.TheVariants.{Q, W, P, A, C}
 use Rattle.site.specs.declared.Order.{Order}
@@ -54,11 +55,11 @@ order_at k q = cond (eqb k move_p) (move_p_at q) (cond (eqb k move_w) (move_w_at
 abbrev pub replied : Site → ℕ → ℕ → Done
 replied s k from = cond (eqb k move_p || eqb k move_w) (taken s ack (weight_of from)) (taken s 0 0)
 
--- the sender becomes the leader followed, also where the order is passed over in its state
+-- the sender becomes the leader followed, also where the order is passed over in its state; a conflict is ground 6
 abbrev pub obeyed : Order → Site → ℕ → ℕ → Done
 obeyed (To q) s k from = replied (following (in_state s q) from) k from
 obeyed Over s k from = passed (following s from)
-obeyed Conflict s k from = refused s 6
+obeyed Conflict s k from = refused s in_conflict
 
 -- "from a sender below the leader followed: passed over, no change"
 unfoldable pub obey_of : Site → ℕ → ℕ → Done
@@ -80,7 +81,7 @@ over_in C s = taken (with_acked (following s s.number) 0) commit (to_all s)
 
 -- "Take over, when following a lower site and all lower ones are known stopped"; else ground 5
 unfoldable pub take_over_of : Site → Done
-take_over_of s = cond (ltb s.leader s.number && subset (below_of s.number) s.known) (over_in s.state s) (refused s 5)
+take_over_of s = cond (ltb s.leader s.number && subset (below_of s.number) s.known) (over_in s.state s) (refused s NotAllowed)
 
 -- a leader that gathers acknowledgements: "when every other site has acknowledged or is known stopped,
 -- w writes Abort and goes to a, p writes Commit and goes to c", both to all; else ground 5
@@ -88,4 +89,4 @@ unfoldable pub settle_of : Site → Done
 settle_of s =
     cond (collects s && eqb (awaited_of s) 0)
     (cond (is_p s.state) (taken (in_state s C) commit (to_all s)) (taken (in_state s A) abort (to_all s)))
-    (refused s 5)
+    (refused s NotAllowed)

@@ -2,6 +2,7 @@
 -- Assumes nothing.
 use Rattle.std.specs.Prelude.{ℕ, Bool, true, false, cond, not, ◌&&◌, ◌||◌, eqb, ltb, leb}
 use Rattle.sets.specs.Sets.{union, minus, subset, others_of}
+use Rattle.refusal.specs.declared.Refusal.{Refusal}
 use Rattle.site.specs.declared.State.{State}
 use Rattle.site.specs.declared.State.TheVariants.{Q, W, P, A, C}
 use Rattle.site.specs.declared.Site.{Site}
@@ -162,7 +163,7 @@ awaited_of s =
 -- ---- how a step ends
 
 -- refused with a ground, or passed over: nothing is written
-abbrev pub refused : Site → ℕ → Done
+abbrev pub refused : Site → Refusal → Done
 refused s g = record { site = s; outcome = Refused g; kind = 0; to = 0 }
 
 abbrev pub passed : Site → Done

@@ -1,7 +1,10 @@
 -- The site step (01, "Site and messages"): every step's rule, the grounds 1, 2, 5 and 6 in their order, and what is reported.
 -- Assumes nothing.
-use Rattle.std.specs.Prelude.{ℕ, cond, eqb}
+use Rattle.std.specs.Prelude.{ℕ, cond, eqb, Err}
 use Rattle.sets.specs.Sets.{has, with_site, count_of, lowest_of}
+use Rattle.refusal.specs.declared.Refusal.{Refusal}
+use Rattle.refusal.specs.declared.Refusal.TheVariants.{NotSound, WrongNames}
+use Rattle.refusal.specs.Refusals.{refusal_number, Test, clear}
 use Rattle.site.specs.declared.Vote.TheVariants.{Yes, No}
 use Rattle.site.specs.declared.Site.{Site}
 use Rattle.site.specs.declared.Step.{Step}
@@ -42,7 +45,7 @@ rule_of s Conclude = conclude_of s
 
 -- the grounds in their order: 1 a record that is not sound, 2 wrong names; then the rule, with 5 or 6
 unfoldable pub done_of : Site → Step → Done
-done_of s t = cond (sound_of s) (cond (names_of s t) (rule_of s t) (refused s 2)) (refused s 1)
+done_of s t = cond (sound_of s) (cond (names_of s t) (rule_of s t) (refused s WrongNames)) (refused s NotSound)
 
 -- so many messages are written and nobody is awaited. The lowest is then 0: "0 when none is awaited" (02, Ask 4)
 abbrev pub none_awaited : ℕ → Counts
@@ -63,7 +66,13 @@ counted s to = record { written = count_of to; awaited = count_of (awaited_of s)
 abbrev pub number_of : Outcome → ℕ
 number_of Taken = 0
 number_of Passed = 0
-number_of (Refused g) = g
+number_of (Refused g) = refusal_number g
+
+-- the ground on which a step is refused, if it is
+abbrev pub ground_of : Outcome → Test
+ground_of Taken = clear
+ground_of Passed = clear
+ground_of (Refused g) = Err g
 
 -- what is reported at each outcome; a refusal reports zeros
 abbrev pub counts_of : Outcome → Site → ℕ → Counts
@@ -91,5 +100,5 @@ unfoldable pub step_of : Site → Step → Answer
 step_of s t = answered (done_of s t)
 
 -- "Refused: run and site come back unchanged, no message, zero counts"
-abbrev pub refusal : Site → ℕ → Answer
+abbrev pub refusal : Site → Refusal → Answer
 refusal s g = record { site = s; outcome = Refused g; kind = 0; to = 0; counts = none }

@@ -1,17 +1,20 @@
 // A site of the register's commit: its record, the messages, and the site step (document 01, "Site and messages").
-// A step takes any record and any step. What it cannot accept it refuses with 01's number, and the record comes back as it was.
+// A step takes any record and any step. What it cannot accept it refuses on one of 01's grounds, and the record comes back as it was.
 #![tactic(auto)]
 
 ghost use Rattle.std.specs.Prelude.{◌≡◌, ◌&&◌, eqb, ltb};
 ghost use Rattle.sets.specs.Sets.{below_of, subset};
-ghost use Rattle.site.specs.Site.{is_q, is_w, is_p, in_state, sound_of, ends_of, to_all, in_run, names_of, polls, collects, awaited_of, refused, passed, taken};
+ghost use Rattle.site.specs.Site.{in_state, following, sound_of, ends_of, to_all, in_run, names_of, polls, collects, awaited_of, refused, passed, taken};
 ghost use Rattle.site.specs.First.{begin_of, start_of, vote_of, tally_of};
 ghost use Rattle.site.specs.Leader.{move_p_at, move_w_at, commit_at, abort_at, order_at, replied, obey_of, ack_of, over_in, take_over_of, settle_of};
-ghost use Rattle.site.specs.Step.{notice_of, conclude_of, deliver_of, rule_of, done_of, kind_of, counted, counts_of, answered, step_of};
+ghost use Rattle.site.specs.Step.{notice_of, conclude_of, deliver_of, rule_of, done_of, kind_of, ground_of, counted, counts_of, answered, step_of};
+
+use refusal::Refusal;
 
 // The states: first, wait, prepared, abort, commit.
-#[derive(Clone, Copy)]
+#[derive(Clone, Copy, Debug, Default, PartialEq, Eq)]
 pub enum State {
+    #[default]
     Q,
     W,
     P,
@@ -19,14 +22,15 @@ pub enum State {
     C,
 }
 
-#[derive(Clone, Copy)]
+// A vote, by the number that a record has for it.
+#[derive(Clone, Copy, Debug, PartialEq, Eq)]
 pub enum Vote {
-    Yes,
-    No,
+    Yes = 1,
+    No = 2,
 }
 
 // A site's record: the number of sites, its own number, its state, the leader it follows, and four sets of other sites.
-#[derive(Clone, Copy)]
+#[derive(Clone, Copy, Default)]
 pub struct Site {
     pub n: u8,
     pub number: u8,
@@ -49,15 +53,29 @@ pub enum Step {
     Conclude,
 }
 
-// How a step or an event ends: taken, passed over, or refused with 01's number.
-#[derive(Clone, Copy)]
+// How a step or an event ends: taken, passed over, or refused. It is no Result: the theorem `never_conflict` of specs/Promise in the crate
+// promise speaks of `Refused`. `told` gives the Result.
+#[derive(Clone, Copy, Debug, PartialEq, Eq)]
 pub enum Outcome {
     Taken,
     Passed,
-    Refused(u8),
+    Refused(Refusal),
 }
 
-// What a step did: the site afterwards, and one kind of message written to a set of receivers. The laws of the promise speak of it.
+impl Outcome {
+    // What it refuses.
+    pub fn told(self) -> Result<(), Refusal>
+        ensures { result ≡ ground_of self }
+    {
+        match self {
+            Outcome::Refused(why) => Err(why),
+            Outcome::Taken | Outcome::Passed => Ok(()),
+        }
+    }
+}
+
+// What a step did: the site afterwards, and one kind of message written to a set of receivers. The two are fields, with kind 0 for no message,
+// as in an answer: public `Site::step` gives them so, and C gets them as two bytes.
 #[derive(Clone, Copy)]
 pub struct Done {
     pub site: Site,
@@ -67,14 +85,15 @@ pub struct Done {
 }
 
 // What a step reports: how many messages are written, how many sites are still awaited, and the lowest of these, 0 where nobody is.
-#[derive(Clone, Copy)]
+// A number and no Option: the theorem `lowest_with_number` says when it is 0, and C gets this byte.
+#[derive(Clone, Copy, Default)]
 pub struct Counts {
     pub written: u8,
     pub awaited: u8,
     pub lowest: u8,
 }
 
-// A step's answer. Where nobody is written to, the kind is 0.
+// A step's answer. Where nobody is written to, the kind is 0, and no Option: public `Site::step` answers so (`kind_of`), and C gets this byte.
 #[derive(Clone, Copy)]
 pub struct Answer {
     pub site: Site,
@@ -84,14 +103,18 @@ pub struct Answer {
     pub counts: Counts,
 }
 
-// What an order of a leader does to a state: it leads to a state, is passed over, or conflicts. The laws of the promise speak of it.
-#[derive(Clone, Copy)]
+// What an order of a leader does to a state: it leads to a state, is passed over, or conflicts. `Result<Option<State>, ()>` would be no
+// plainer: it has three cases too, and no names for them.
+#[derive(Clone, Copy, Debug, PartialEq, Eq)]
 pub enum Order {
     To(State),
     Over,
     Conflict,
 }
 
+// The kinds of message, by 01's numbers. They are no enum: a kind is the number in `Step::Deliver`, which takes any (public `Site::step` and
+// `names` refuse what is no kind), and it stays that number all the way, by `deliver`, `obey` and `taken` into an answer and into the network,
+// whose places are computed from it (`place` in the crate run). An enum for what lies between would be a second vocabulary, and no plainer.
 pub const START: u8 = 1;
 
 pub const YES: u8 = 2;
@@ -108,55 +131,16 @@ pub const COMMIT: u8 = 7;
 
 pub const ABORT: u8 = 8;
 
-fn in_q(state: State) -> bool
-    ensures { result ≡ is_q state }
-{
-    match state {
-        State::Q => true,
-        State::W => false,
-        State::P => false,
-        State::A => false,
-        State::C => false,
-    }
-}
-
-fn in_w(state: State) -> bool
-    ensures { result ≡ is_w state }
-{
-    match state {
-        State::Q => false,
-        State::W => true,
-        State::P => false,
-        State::A => false,
-        State::C => false,
-    }
-}
-
-fn in_p(state: State) -> bool
-    ensures { result ≡ is_p state }
-{
-    match state {
-        State::Q => false,
-        State::W => false,
-        State::P => true,
-        State::A => false,
-        State::C => false,
-    }
-}
-
 // Has a message of this kind the right ends?
+#[tactic(auto, unfolding(crate::specs::Site::ends_of))]
 fn ends(kind: u8, from: u8, to: u8) -> bool
     ensures { result ≡ ends_of kind from to }
 {
     match kind {
-        1 => from == 1 && 1 < to,
-        2 => 1 < from && to == 1,
-        3 => 1 < from && to == 1,
-        4 => from < to,
-        5 => from < to,
-        6 => to < from,
-        7 => from < to,
-        8 => from < to,
+        START => from == 1 && 1 < to,
+        YES | NO => 1 < from && to == 1,
+        ACK => to < from,
+        MOVE_P | MOVE_W | COMMIT | ABORT => from < to,
         _ => false,
     }
 }
@@ -166,11 +150,9 @@ fn move_p_at(state: State) -> Order
     ensures { result ≡ move_p_at state }
 {
     match state {
-        State::Q => Order::Conflict,
-        State::W => Order::To(State::P),
-        State::P => Order::To(State::P),
-        State::A => Order::Conflict,
+        State::W | State::P => Order::To(State::P),
         State::C => Order::To(State::C),
+        State::Q | State::A => Order::Conflict,
     }
 }
 
@@ -178,9 +160,7 @@ fn move_w_at(state: State) -> Order
     ensures { result ≡ move_w_at state }
 {
     match state {
-        State::Q => Order::To(State::W),
-        State::W => Order::To(State::W),
-        State::P => Order::To(State::W),
+        State::Q | State::W | State::P => Order::To(State::W),
         State::A => Order::To(State::A),
         State::C => Order::Conflict,
     }
@@ -190,11 +170,9 @@ fn commit_at(state: State) -> Order
     ensures { result ≡ commit_at state }
 {
     match state {
-        State::Q => Order::Conflict,
-        State::W => Order::Conflict,
         State::P => Order::To(State::C),
-        State::A => Order::Conflict,
         State::C => Order::Over,
+        State::Q | State::W | State::A => Order::Conflict,
     }
 }
 
@@ -202,11 +180,9 @@ fn abort_at(state: State) -> Order
     ensures { result ≡ abort_at state }
 {
     match state {
-        State::Q => Order::To(State::A),
-        State::W => Order::To(State::A),
-        State::P => Order::Conflict,
+        State::Q | State::W => Order::To(State::A),
         State::A => Order::Over,
-        State::C => Order::Conflict,
+        State::P | State::C => Order::Conflict,
     }
 }
 
@@ -214,36 +190,34 @@ fn order_at(kind: u8, state: State) -> Order
     ensures { result ≡ order_at kind state }
 {
     match kind {
-        4 => move_p_at(state),
-        5 => move_w_at(state),
-        7 => commit_at(state),
+        MOVE_P => move_p_at(state),
+        MOVE_W => move_w_at(state),
+        COMMIT => commit_at(state),
         _ => abort_at(state),
     }
 }
 
 impl Site {
-    // The record in another state. A field that is an enum is not stored to, so the record is written anew.
+    // The record in another state.
     fn in_state(self, state: State) -> Site
         ensures { result ≡ in_state self state }
     {
-        Site {
-            n: self.n,
-            number: self.number,
-            state,
-            leader: self.leader,
-            known: self.known,
-            yes: self.yes,
-            no: self.no,
-            acked: self.acked,
-        }
+        Site { state, ..self }
     }
 
-    fn refused(self, ground: u8) -> Done
-        ensures { result ≡ refused self ground }
+    // The record as a follower of this leader.
+    fn following(self, leader: u8) -> Site
+        ensures { result ≡ following self leader }
+    {
+        Site { leader, ..self }
+    }
+
+    fn refused(self, why: Refusal) -> Done
+        ensures { result ≡ refused self why }
     {
         Done {
             site: self,
-            outcome: Outcome::Refused(ground),
+            outcome: Outcome::Refused(why),
             kind: 0,
             to: 0,
         }
@@ -282,78 +256,51 @@ impl Site {
     fn replied(self, kind: u8, from: u8) -> Done
         ensures { result ≡ replied self kind from }
     {
-        if kind == MOVE_P {
-            return self.taken(ACK, sets::weight(from));
+        match kind {
+            MOVE_P | MOVE_W => self.taken(ACK, sets::weight(from)),
+            _ => self.taken(0, 0),
         }
-        if kind == MOVE_W {
-            return self.taken(ACK, sets::weight(from));
-        }
-        self.taken(0, 0)
     }
 
     // Is the record one that 01 allows?
+    #[tactic(auto, unfolding(crate::specs::Site::sound_of))]
     pub fn sound(self) -> bool
         ensures { result ≡ sound_of self }
     {
-        let n = self.n;
-        let number = self.number;
-        let leader = self.leader;
         let named = sets::union(
             sets::union(self.known, self.yes),
             sets::union(self.no, self.acked),
         );
-        if n < 2 {
-            return false;
-        }
-        if 8 < n {
-            return false;
-        }
-        if number < 1 {
-            return false;
-        }
-        if n < number {
-            return false;
-        }
-        if leader < 1 {
-            return false;
-        }
-        if number < leader {
-            return false;
-        }
-        sets::subset(named, sets::all_others(n, number))
+        (2..=8).contains(&self.n)
+            && (1..=self.n).contains(&self.number)
+            && (1..=self.number).contains(&self.leader)
+            && sets::subset(named, sets::all_others(self.n, self.number))
     }
 
     // Is j one of the sites 1 to n?
+    #[tactic(auto, unfolding(crate::specs::Site::in_run))]
     fn in_run(self, j: u8) -> bool
         ensures { result ≡ in_run self j }
     {
-        1 <= j && j <= self.n
+        (1..=self.n).contains(&j)
     }
 
     // Does the step name sites and messages as 01 has them? If not, that is ground 2.
     pub fn names(self, step: Step) -> bool
         ensures { result ≡ names_of self step }
     {
-        let number = self.number;
         match step {
-            Step::Begin(_) => true,
-            Step::Start(from, _) => self.in_run(from) && ends(1, from, number),
-            Step::Deliver(kind, from) => {
-                if !self.in_run(from) {
-                    return false;
-                }
-                if kind == START {
-                    return false;
-                }
-                ends(kind, from, number)
-            }
-            Step::Notice(o) => self.in_run(o) && o != number,
-            Step::TakeOver => true,
-            Step::Conclude => true,
+            Step::Begin(_) | Step::TakeOver | Step::Conclude => true,
+            Step::Start(from, _) => self.in_run(from) && ends(START, from, self.number),
+            Step::Deliver(kind, from) => self.in_run(from)
+                && kind != START
+                && ends(kind, from, self.number),
+            Step::Notice(o) => self.in_run(o) && o != self.number,
         }
     }
 
     // Every other site not known stopped.
+    #[tactic(auto, unfolding(crate::specs::Site::to_all))]
     fn to_all(self) -> u8
         ensures { result ≡ to_all self }
     {
@@ -361,44 +308,42 @@ impl Site {
     }
 
     // Does the site gather votes?
+    #[tactic(auto, unfolding(crate::specs::Site::polls))]
     fn polls(self) -> bool
         ensures { result ≡ polls self }
     {
-        let state = self.state;
-        in_w(state) && self.number == 1
+        self.state == State::W && self.number == 1
     }
 
     // Does the site gather acknowledgements?
+    #[tactic(auto, unfolding(crate::specs::Site::collects))]
     fn collects(self) -> bool
         ensures { result ≡ collects self }
     {
-        let number = self.number;
-        let state = self.state;
-        self.leader == number && (in_p(state) || in_w(state) && number != 1)
+        self.leader == self.number
+            && (self.state == State::P || self.state == State::W && self.number != 1)
     }
 
     // The sites whose vote or acknowledgement is still awaited.
+    #[tactic(auto, unfolding(crate::specs::Site::awaited_of))]
     fn awaited(self) -> u8
         ensures { result ≡ awaited_of self }
     {
         if self.polls() {
-            return sets::minus(self.to_all(), sets::union(self.yes, self.no));
+            sets::minus(self.to_all(), sets::union(self.yes, self.no))
+        } else if self.collects() {
+            sets::minus(self.to_all(), self.acked)
+        } else {
+            0
         }
-        if self.collects() {
-            return sets::minus(self.to_all(), self.acked);
-        }
-        0
     }
 
+    #[tactic(auto, unfolding(crate::specs::First::begin_of))]
     fn begin(self, vote: Vote) -> Done
         ensures { result ≡ begin_of self vote }
     {
-        let state = self.state;
-        if self.number != 1 {
-            return self.refused(5);
-        }
-        if !in_q(state) {
-            return self.refused(5);
+        if self.number != 1 || self.state != State::Q {
+            return self.refused(Refusal::NotAllowed);
         }
         let to = self.to_all();
         match vote {
@@ -407,14 +352,11 @@ impl Site {
         }
     }
 
+    #[tactic(auto, unfolding(crate::specs::First::start_of))]
     fn start(self, from: u8, vote: Vote) -> Done
         ensures { result ≡ start_of self from vote }
     {
-        let state = self.state;
-        if from < self.leader {
-            return self.passed();
-        }
-        if !in_q(state) {
+        if from < self.leader || self.state != State::Q {
             return self.passed();
         }
         let one = sets::weight(1);
@@ -425,6 +367,7 @@ impl Site {
     }
 
     // A Yes or a No is heard.
+    #[tactic(auto, unfolding(crate::specs::First::vote_of))]
     fn heard(self, from: u8, vote: Vote) -> Done
         ensures { result ≡ vote_of self from vote }
     {
@@ -433,68 +376,51 @@ impl Site {
         }
         let mut next = self;
         match vote {
-            Vote::Yes => {
-                next.yes = sets::with(next.yes, from);
-                next.taken(0, 0)
-            }
-            Vote::No => {
-                next.no = sets::with(next.no, from);
-                next.taken(0, 0)
-            }
+            Vote::Yes => next.yes = sets::with(self.yes, from),
+            Vote::No => next.no = sets::with(self.no, from),
         }
+        next.taken(0, 0)
     }
 
     // Site 1 concludes by the votes.
+    #[tactic(auto, unfolding(crate::specs::First::tally_of))]
     fn tally(self) -> Done
         ensures { result ≡ tally_of self }
     {
         let to = self.to_all();
-        let yes = self.yes;
-        if self.no != 0 {
+        if self.no != 0 || !sets::subset(self.known, self.yes) {
             return self.moved(State::A, ABORT, to);
         }
-        if !sets::subset(self.known, yes) {
-            return self.moved(State::A, ABORT, to);
-        }
-        if sets::subset(sets::all_others(self.n, self.number), yes) {
+        if sets::subset(sets::all_others(self.n, self.number), self.yes) {
             return self.moved(State::P, MOVE_P, to);
         }
-        self.refused(5)
+        self.refused(Refusal::NotAllowed)
     }
 
     // An order of a leader: Move-p, Move-w, Commit or Abort.
+    #[tactic(auto, unfolding(crate::specs::Leader::obey_of))]
     fn obey(self, kind: u8, from: u8) -> Done
         ensures { result ≡ obey_of self kind from }
     {
-        let state = self.state;
-        let leader = self.leader;
-        if from < leader {
+        if from < self.leader {
             return self.passed();
         }
-        match order_at(kind, state) {
-            Order::To(new) => {
-                let mut next = self.in_state(new);
-                next.leader = from;
-                next.replied(kind, from)
-            }
-            Order::Over => {
-                let mut next = self;
-                next.leader = from;
-                next.passed()
-            }
-            Order::Conflict => self.refused(6),
+        match order_at(kind, self.state) {
+            Order::To(state) => self.in_state(state).following(from).replied(kind, from),
+            Order::Over => self.following(from).passed(),
+            Order::Conflict => self.refused(Refusal::Conflict),
         }
     }
 
+    #[tactic(auto, unfolding(crate::specs::Leader::ack_of))]
     fn acknowledged(self, from: u8) -> Done
         ensures { result ≡ ack_of self from }
     {
         if !self.collects() {
             return self.passed();
         }
-        let mut next = self;
-        next.acked = sets::with(next.acked, from);
-        next.taken(0, 0)
+        let acked = sets::with(self.acked, from);
+        Site { acked, ..self }.taken(0, 0)
     }
 
     // It leads, acknowledgements cleared, and tells all where it stands; from q it goes to a.
@@ -502,12 +428,12 @@ impl Site {
         ensures { result ≡ over_in self.state self }
     {
         let to = self.to_all();
-        let state = self.state;
-        let mut next = self;
-        next.leader = next.number;
-        next.acked = 0;
-        match state {
-            State::Q => next.in_state(State::A).taken(ABORT, to),
+        let next = Site {
+            acked: 0,
+            ..self.following(self.number)
+        };
+        match self.state {
+            State::Q => next.moved(State::A, ABORT, to),
             State::W => next.taken(MOVE_W, to),
             State::P => next.taken(MOVE_P, to),
             State::A => next.taken(ABORT, to),
@@ -519,15 +445,15 @@ impl Site {
     fn may_lead(self) -> bool
         ensures { result ≡ (ltb self.leader self.number && subset (below_of self.number) self.known) }
     {
-        let number = self.number;
-        self.leader < number && sets::subset(sets::below(number), self.known)
+        self.leader < self.number && sets::subset(sets::below(self.number), self.known)
     }
 
+    #[tactic(auto, unfolding(crate::specs::Leader::take_over_of))]
     fn take_over(self) -> Done
         ensures { result ≡ take_over_of self }
     {
         if !self.may_lead() {
-            return self.refused(5);
+            return self.refused(Refusal::NotAllowed);
         }
         self.takes_lead()
     }
@@ -540,49 +466,52 @@ impl Site {
     }
 
     // A leader concludes by the acknowledgements.
+    #[tactic(auto, unfolding(crate::specs::Leader::settle_of))]
     fn settle(self) -> Done
         ensures { result ≡ settle_of self }
     {
         if !self.settled() {
-            return self.refused(5);
+            return self.refused(Refusal::NotAllowed);
         }
         let to = self.to_all();
-        let state = self.state;
-        if in_p(state) {
-            return self.moved(State::C, COMMIT, to);
+        match self.state {
+            State::P => self.moved(State::C, COMMIT, to),
+            _ => self.moved(State::A, ABORT, to),
         }
-        self.moved(State::A, ABORT, to)
     }
 
     // Conclude, for a leader: the new site, with receivers and refusal.
+    #[tactic(auto, unfolding(crate::specs::Step::conclude_of))]
     fn conclude(self) -> Done
         ensures { result ≡ conclude_of self }
     {
         if self.polls() {
-            return self.tally();
+            self.tally()
+        } else {
+            self.settle()
         }
-        self.settle()
     }
 
+    #[tactic(auto, unfolding(crate::specs::Step::notice_of))]
     fn notice(self, o: u8) -> Done
         ensures { result ≡ notice_of self o }
     {
         if sets::member(self.known, o) {
             return self.passed();
         }
-        let mut next = self;
-        next.known = sets::with(next.known, o);
-        next.taken(0, 0)
+        let known = sets::with(self.known, o);
+        Site { known, ..self }.taken(0, 0)
     }
 
     // A delivered message that is no Start.
+    #[tactic(auto, unfolding(crate::specs::Step::deliver_of))]
     fn deliver(self, kind: u8, from: u8) -> Done
         ensures { result ≡ deliver_of self kind from }
     {
         match kind {
-            2 => self.heard(from, Vote::Yes),
-            3 => self.heard(from, Vote::No),
-            6 => self.acknowledged(from),
+            YES => self.heard(from, Vote::Yes),
+            NO => self.heard(from, Vote::No),
+            ACK => self.acknowledged(from),
             _ => self.obey(kind, from),
         }
     }
@@ -602,19 +531,21 @@ impl Site {
     }
 
     // The grounds 1 and 2, then the rule.
+    #[tactic(auto, unfolding(crate::specs::Step::done_of))]
     fn done(self, step: Step) -> Done
         ensures { result ≡ done_of self step }
     {
         if !self.sound() {
-            return self.refused(1);
+            return self.refused(Refusal::NotSound);
         }
         if !self.names(step) {
-            return self.refused(2);
+            return self.refused(Refusal::WrongNames);
         }
         self.rule(step)
     }
 
     // The site step.
+    #[tactic(auto, unfolding(crate::specs::Step::step_of))]
     pub fn step(self, step: Step) -> Answer
         ensures { result ≡ step_of self step }
     {
@@ -624,20 +555,16 @@ impl Site {
 
 impl Done {
     // What a step did, with what it reports.
+    #[tactic(auto, unfolding(crate::specs::Step::answered))]
     fn answered(self) -> Answer
         ensures { result ≡ answered self }
     {
-        let site = self.site;
-        let to = self.to;
-        let outcome = self.outcome;
-        let kind = kind_of(self.kind, to);
-        let counts = counts_of(outcome, site, to);
         Answer {
-            site,
-            outcome,
-            kind,
-            to,
-            counts,
+            site: self.site,
+            outcome: self.outcome,
+            kind: kind_of(self.kind, self.to),
+            to: self.to,
+            counts: counts_of(self.outcome, self.site, self.to),
         }
     }
 }
@@ -646,10 +573,7 @@ impl Done {
 fn kind_of(kind: u8, to: u8) -> u8
     ensures { result ≡ kind_of kind to }
 {
-    if to == 0 {
-        return 0;
-    }
-    kind
+    if to == 0 { 0 } else { kind }
 }
 
 // What is reported at each outcome. A refusal reports zeros.
@@ -657,13 +581,8 @@ fn counts_of(outcome: Outcome, site: Site, to: u8) -> Counts
     ensures { result ≡ counts_of outcome site to }
 {
     match outcome {
-        Outcome::Taken => counted(site, to),
-        Outcome::Passed => counted(site, to),
-        Outcome::Refused(_) => Counts {
-            written: 0,
-            awaited: 0,
-            lowest: 0,
-        },
+        Outcome::Taken | Outcome::Passed => counted(site, to),
+        Outcome::Refused(_) => Counts::default(),
     }
 }
 
