@@ -1,6 +1,7 @@
 -- The one account of an event: why it is accepted, or on which ground it is refused, and what it comes to.
 -- Assumes nothing.
-use Prim.Native.Nat.{ℕ, zero, suc, ◌≤◌}
+use Prim.Native.Nat.{ℕ, ◌≤◌}
+use Rattle.std.specs.Prelude.{Ok, Err}
 use mathlib.Core.Bool.{Bool, true, false, cond, ◌&&◌}
 use mathlib.Core.Path.{◌≡◌, refl, ap, ◌∙◌}
 use mathlib.Core.Logic.{◌⊎◌, inl, inr}
@@ -8,12 +9,14 @@ use native.Mathlib.Omega.{arith}
 use lib.Dec.{leb}
 use borrow.Author.Tests.{leb-true}
 use Rattle.sets.proofs.Truths.{and_l, and_r}
+use Rattle.refusal.specs.declared.Refusal.{Refusal}
+use Rattle.refusal.specs.declared.Refusal.TheVariants.{NotSound, WrongNames, ActorStopped, NotThere}
+use Rattle.refusal.specs.Refusals.{Test, clear}
 use Rattle.site.specs.declared.Outcome.{Outcome}
 use Rattle.site.specs.declared.Outcome.TheVariants.{Taken, Passed, Refused}
 use Rattle.site.specs.declared.Step.{Step}
 use Rattle.site.specs.Site.{names_of}
-use Rattle.site.specs.Step.{step_of, number_of}
-use Rattle.site.proofs.SiteLaws.{ground_some}
+use Rattle.site.specs.Step.{step_of, ground_of}
 use Rattle.run.specs.declared.Run.{Run}
 use Rattle.run.specs.declared.Event.{Event}
 use Rattle.run.specs.declared.Event.TheVariants.{Act, Stop, Cut}
@@ -65,12 +68,12 @@ module _ {r : Run} {s : ℕ} (a : Able r s) where
 -- ---- why an event is refused
 
 -- the grounds of a step of site s in a sound run, each where its turn comes
-pub data Why (r : Run) (s : ℕ) (t : Step) : ℕ → Type 0 where
-  fine : Acting r s t → Why r s t 0
-  misnamed : (is_actor r s && names_of (site_at r s) t) ≡ false → Why r s t 2
-  stopped : has_stopped r s ≡ true → Why r s t 3
-  missing : Able r s → is_there r s t ≡ false → Why r s t 4
-  own : {g : ℕ} → Able r s → names_of (site_at r s) t ≡ true → is_there r s t ≡ true → (step_of (site_at r s) t).outcome ≡ Refused (suc g) → Why r s t (suc g)
+pub data Why (r : Run) (s : ℕ) (t : Step) : Test → Type 0 where
+  fine : Acting r s t → Why r s t clear
+  misnamed : (is_actor r s && names_of (site_at r s) t) ≡ false → Why r s t (Err WrongNames)
+  stopped : has_stopped r s ≡ true → Why r s t (Err ActorStopped)
+  missing : Able r s → is_there r s t ≡ false → Why r s t (Err NotThere)
+  own : {g : Refusal} → Able r s → names_of (site_at r s) t ≡ true → is_there r s t ≡ true → (step_of (site_at r s) t).outcome ≡ Refused g → Why r s t (Err g)
 
 pub why : (r : Run) (s : ℕ) (t : Step) → sound_run r ≡ true → Why r s t (step_ground r s t)
 unfolding step_ground
@@ -83,14 +86,13 @@ why r s t p = go (is_actor r s && names_of (site_at r s) t) (has_stopped r s) (i
     names q = and_r (is_actor r s) (names_of (site_at r s) t) q
 
     go : (b c d : Bool) (o : Outcome) → (is_actor r s && names_of (site_at r s) t) ≡ b → has_stopped r s ≡ c → is_there r s t ≡ d → (step_of (site_at r s) t).outcome ≡ o
-        → Why r s t (cond b (cond c 3 (cond d (number_of o) 4)) 2)
+        → Why r s t (cond b (cond c (Err ActorStopped) (cond d (ground_of o) (Err NotThere))) (Err WrongNames))
     go false c d o q u v w = misnamed q
     go true true d o q u v w = stopped u
     go true false false o q u v w = missing (able q u) v
     go true false true Taken q u v w = fine (record { able = able q u; names = names q; there = v; accepted = ap accepted_by w })
     go true false true Passed q u v w = fine (record { able = able q u; names = names q; there = v; accepted = ap accepted_by w })
-    go true false true (Refused zero) q u v w = absurd (let z = ground_some (site_at r s) t 0 w in omega arith)
-    go true false true (Refused (suc g)) q u v w = own (able q u) (names q) v w
+    go true false true (Refused g) q u v w = own (able q u) (names q) v w
 
 -- an event by which site s takes step t, whole or cut short
 pub data Asks : Event → ℕ → Step → Type 0 where
@@ -98,28 +100,28 @@ pub data Asks : Event → ℕ → Step → Type 0 where
   short : {s : ℕ} {t : Step} {x : ℕ} → Asks (Cut s t x) s t
 
 -- an event is refused with 1 in an unsound run, as its step is, or with 2 or 3 where it is a stop
-pub data Denied (r : Run) : Event → ℕ → Type 0 where
-  unsound : {e : Event} → sound_run r ≡ false → Denied r e 1
-  step : {e : Event} {s g : ℕ} {t : Step} → Asks e s t → Why r s t (suc g) → Denied r e (suc g)
-  not_one : {s : ℕ} → is_actor r s ≡ false → Denied r (Stop s) 2
-  again : {s : ℕ} → has_stopped r s ≡ true → Denied r (Stop s) 3
+pub data Denied (r : Run) : Event → Refusal → Type 0 where
+  unsound : {e : Event} → sound_run r ≡ false → Denied r e NotSound
+  step : {e : Event} {s : ℕ} {g : Refusal} {t : Step} → Asks e s t → Why r s t (Err g) → Denied r e g
+  not_one : {s : ℕ} → is_actor r s ≡ false → Denied r (Stop s) WrongNames
+  again : {s : ℕ} → has_stopped r s ≡ true → Denied r (Stop s) ActorStopped
 
 -- ---- the account
 
 -- what an event comes to: it happens, or it is refused with its ground
 pub data Account (r : Run) (e : Event) : Ran → Type 0 where
   accepted : Accepted r e → Account r e (happened r e)
-  denied : {g : ℕ} → Denied r e g → Account r e (refused_run r g)
+  denied : {g : Refusal} → Denied r e g → Account r e (refused_run r g)
 
-step_account : (r : Run) (e : Event) (s : ℕ) (t : Step) → Asks e s t → (Acting r s t → Accepted r e) → (g : ℕ) → Why r s t g → Account r e (unless g r (happened r e))
-step_account r e s t a f zero (fine x) = accepted (f x)
-step_account r e s t a f (suc g) y = denied (step a y)
+step_account : (r : Run) (e : Event) (s : ℕ) (t : Step) → Asks e s t → (Acting r s t → Accepted r e) → (g : Test) → Why r s t g → Account r e (unless g r (happened r e))
+step_account r e s t a f (Ok u) (fine x) = accepted (f x)
+step_account r e s t a f (Err g) y = denied (step a y)
 
 stop_account : (r : Run) (s : ℕ) → sound_run r ≡ true → Account r (Stop s) (unless (stop_ground r s) r (happened r (Stop s)))
 unfolding stop_ground
 stop_account r s p = go (is_actor r s) (has_stopped r s) refl refl
   where
-    go : (b c : Bool) → is_actor r s ≡ b → has_stopped r s ≡ c → Account r (Stop s) (unless (cond b (cond c 3 0) 2) r (happened r (Stop s)))
+    go : (b c : Bool) → is_actor r s ≡ b → has_stopped r s ≡ c → Account r (Stop s) (unless (cond b (cond c (Err ActorStopped) clear) (Err WrongNames)) r (happened r (Stop s)))
     go false c q u = denied (not_one q)
     go true true q u = denied (again u)
     go true false q u = accepted (stops (record { sound = p; actor = q; runs = u }))
@@ -129,7 +131,7 @@ pub account : (r : Run) (e : Event) → Account r e (event_of r e)
 unfolding event_of goes_of
 account r e = go (sound_run r) refl e
   where
-    go : (b : Bool) → sound_run r ≡ b → (e : Event) → Account r e (cond b (goes_of r e) (refused_run r 1))
+    go : (b : Bool) → sound_run r ≡ b → (e : Event) → Account r e (cond b (goes_of r e) (refused_run r NotSound))
     go false p e = denied (unsound p)
     go true p (Act s t) = step_account r (Act s t) s t whole acts _ (why r s t p)
     go true p (Stop s) = stop_account r s p
@@ -137,7 +139,7 @@ account r e = go (sound_run r) refl e
 
 -- a refused event, with its ground and the reason for it
 pub record Refuses (r : Run) (e : Event) : Type 0 where
-  pub ground : ℕ
+  pub ground : Refusal
   pub why : Denied r e ground
   pub unchanged : event_of r e ≡ refused_run r ground
 
@@ -150,11 +152,11 @@ fate r e = go (account r e) refl
 
 -- ---- and back: where no ground holds, the event happens
 
-step_free : {r : Run} {s : ℕ} {t : Step} → Acting r s t → step_ground r s t ≡ 0
+step_free : {r : Run} {s : ℕ} {t : Step} → Acting r s t → step_ground r s t ≡ clear
 unfolding step_ground
 step_free {r} {s} {t} a = simp (a.able.actor, a.names, a.able.runs, a.there) (go (step_of (site_at r s) t).outcome a.accepted)
   where
-    go : (o : Outcome) → accepted_by o ≡ 1 → number_of o ≡ 0
+    go : (o : Outcome) → accepted_by o ≡ 1 → ground_of o ≡ clear
     go Taken y = refl
     go Passed y = refl
     go (Refused g) y = absurd (omega arith)

@@ -6,7 +6,7 @@ use mathlib.Core.Path.{◌≡◌, refl, sym, ap, ◌∙◌}
 use mathlib.Core.Logic.{◌≢◌, ⊎_elim}
 use mathlib.Core.List.{List}
 use lib.Dec.{eqb}
-use lib.ListN.{length, get_or, set, length-set, length-map}
+use lib.ListN.{get_or, set, length-set, length-map}
 use lib.Seq.{set-get_or, set_out}
 use borrow.Author.Tests.{eqb-true}
 use native.Mathlib.Omega.{arith}
@@ -246,22 +246,8 @@ stop_applied r s h =
 
 -- ---- as the code puts it
 
--- the stopped sites and the network once site s has stopped, if it does
-abbrev pub stopped_now : Run → ℕ → Bool → ℕ
-stopped_now r s b = cond b (with_site r.stopped s) r.stopped
-
-abbrev pub net_now : List ℕ → ℕ → Bool → List ℕ
-net_now net s b = cond b (stopped_in net s) net
-
-pub net_long : (net : List ℕ) (s : ℕ) (b : Bool) → length (net_now net s b) ≡ length net
-net_long net s true = length-map net (λ (m : ℕ). without m s)
-net_long net s false = refl
-
--- part by part it is what was to be put
-pub put_is : (r : Run) (s : ℕ) (x : Effect) → remade r (stopped_now r s x.stops) (set r.sites (s - 1) x.site) (sent_in (net_now (taken_in r.net x.got x.from s) s x.stops) x.kind s (minus x.to (stopped_now r s x.stops))) ≡ applied r s x
-unfolding applied sent_by stopped_at taken_out
-put_is r s x = go x.stops
-  where
-    go : (b : Bool) → remade r (stopped_now r s b) (set r.sites (s - 1) x.site) (sent_in (net_now (taken_in r.net x.got x.from s) s b) x.kind s (minus x.to (stopped_now r s b))) ≡ sent_by (halted_at (taken_out (with_record r s x.site) x.got x.from s) s b) x.kind s x.to
-    go true = refl
-    go false = refl
+-- a run after the site's stop, if it does stop, with the messages that leave: it is what was to be put
+pub put_is : (r : Run) (s : ℕ) (x : Effect) (b : Bool) → x.stops ≡ b → (now : Run) → now ≡ halted_at (taken_out (with_record r s x.site) x.got x.from s) s b
+    → (net : List ℕ) → net ≡ sent_in now.net x.kind s (minus x.to now.stopped) → record { n = now.n; stopped = now.stopped; sites = now.sites; net = net } ≡ applied r s x
+unfolding applied sent_by
+put_is r s x b e now f net g = rw g (rw f (rw e refl))

@@ -1,8 +1,6 @@
 -- Laws of runs, for the functions' proofs and for the crates above.
 
--- Lists and tests, views of a run and what changes them, and what soundness means.
-pub mod RunLists
-pub mod Places
+-- Views of a run and what changes them, and what soundness means.
 pub mod RunSteps
 pub mod Views
 pub mod SoundLaws

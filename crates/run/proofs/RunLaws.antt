@@ -15,10 +15,13 @@ use Rattle.sets.proofs.SubsetLaws.{both_lt}
 use Rattle.sets.proofs.Truths.{and_l, and_r, or_e, or_r, clash}
 use Rattle.site.specs.declared.State.TheVariants.{A, C}
 use Rattle.site.specs.declared.Site.{Site}
+use Rattle.refusal.specs.declared.Refusal.{Refusal}
+use Rattle.refusal.specs.declared.Refusal.TheVariants.{NotSound}
+use Rattle.refusal.specs.Refusals.{Test}
 use Rattle.site.specs.declared.Outcome.{Outcome}
 use Rattle.site.specs.declared.Outcome.TheVariants.{Taken, Passed, Refused}
 use Rattle.site.specs.declared.Step.{Step}
-use Rattle.site.specs.Step.{step_of, number_of}
+use Rattle.site.specs.Step.{step_of}
 use Rattle.site.proofs.SiteLaws.{abort_kept, commit_kept, to_lt}
 use Rattle.site.proofs.SiteMessages.{message}
 use Rattle.run.specs.declared.Run.{Run}
@@ -41,14 +44,14 @@ use Rattle.run.proofs.Applied.{takes_out, writes, stops_at, Fits, Applied, appli
 -- ---- refusals
 
 -- "Refused: run and site come back unchanged, no message, zero counts"
-pub refused_unchanged : (r : Run) (e : Event) (g : ℕ) → (event_of r e).outcome ≡ Refused g → event_of r e ≡ refused_run r g
+pub refused_unchanged : (r : Run) (e : Event) (g : Refusal) → (event_of r e).outcome ≡ Refused g → event_of r e ≡ refused_run r g
 refused_unchanged r e g q = ⊎_elim taken refused (fate r e)
   where
     taken : Accepted r e → event_of r e ≡ refused_run r g
     taken a = let z : ◌≡◌ {A = ℕ} 1 0 = sym (then_accepted a) ∙ ap accepted_by q in absurd (omega arith)
 
     refused : Refuses r e → event_of r e ≡ refused_run r g
-    refused n = n.unchanged ∙ ap (refused_run r) (ap number_of (sym (ap (λ (x : Ran). x.outcome) n.unchanged) ∙ q))
+    refused n = n.unchanged ∙ ap (refused_run r) (let e = sym (ap (λ (x : Ran). x.outcome) n.unchanged) ∙ q in cc)
 
 -- how a stop inside a step ends, by how the step would: "refused as that step would be", else taken
 abbrev pub cut_outcome : Outcome → Outcome
@@ -65,15 +68,15 @@ cut_outcome_lem r s t x = go (sound_run r) refl
     taken Passed y = refl
     taken (Refused g) y = absurd (omega arith)
 
-    same : {g : ℕ} → Why r s t g → (unless g r (happened r (Cut s t x))).outcome ≡ cut_outcome (unless g r (happened r (Act s t))).outcome
+    same : {g : Test} → Why r s t g → (unless g r (happened r (Cut s t x))).outcome ≡ cut_outcome (unless g r (happened r (Act s t))).outcome
     same (fine a) = taken (step_of (site_at r s) t).outcome a.accepted
     same (misnamed q) = refl
     same (stopped q) = refl
     same (missing a q) = refl
     same (own a n i q) = refl
 
-    go : (b : Bool) → sound_run r ≡ b → (cond b (unless (step_ground r s t) r (happened r (Cut s t x))) (refused_run r 1)).outcome
-        ≡ cut_outcome (cond b (unless (step_ground r s t) r (happened r (Act s t))) (refused_run r 1)).outcome
+    go : (b : Bool) → sound_run r ≡ b → (cond b (unless (step_ground r s t) r (happened r (Cut s t x))) (refused_run r NotSound)).outcome
+        ≡ cut_outcome (cond b (unless (step_ground r s t) r (happened r (Act s t))) (refused_run r NotSound)).outcome
     go true p = same (why r s t p)
     go false p = refl
 

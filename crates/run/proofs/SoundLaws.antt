@@ -35,6 +35,15 @@ pub every_all : (n : ℕ) (f : ℕ → Bool) → ((i : ℕ) → i < n → f i �
 every_all zero f h = refl
 every_all (suc n) f h = and_i (every n f) (f n) (every_all n f (λ i l. h i (omega arith))) (h n (omega arith))
 
+-- what a chain that ends in `all` returned is the test of every number below n
+pub every_iff : (f : ℕ → Bool) (n : ℕ) (r : Bool) → (r ≡ true → (i : ℕ) → i < n → f i ≡ true) → (r ≡ false → (i : ℕ) × (i < n) × (f i ≡ false)) → r ≡ every n f
+every_iff f n true t e = sym (every_all n f (t refl))
+every_iff f n false t e = go (every n f) refl (e refl)
+  where
+    go : (b : Bool) → every n f ≡ b → (i : ℕ) × (i < n) × (f i ≡ false) → false ≡ b
+    go true q h = absurd (clash (every_at n f q h.0 h.1) h.2)
+    go false q h = refl
+
 -- ---- the sites that a message may reach
 
 -- a receiver of 1 to n, right for the kind and the sender

@@ -1,7 +1,10 @@
 -- The events of a run (01, "The run"): on which of the grounds 1 to 6 one is refused, and what one does that is accepted.
 -- Assumes nothing.
-use Rattle.std.specs.Prelude.{ℕ, zero, suc, Bool, true, false, cond, not, ◌&&◌, leb}
+use Rattle.std.specs.Prelude.{ℕ, Bool, true, false, cond, not, ◌&&◌, leb, Ok, Err}
 use Rattle.sets.specs.Sets.{both, count_of}
+use Rattle.refusal.specs.declared.Refusal.{Refusal}
+use Rattle.refusal.specs.declared.Refusal.TheVariants.{NotSound, WrongNames, ActorStopped, NotThere}
+use Rattle.refusal.specs.Refusals.{Test, clear}
 use Rattle.site.specs.declared.Outcome.{Outcome}
 use Rattle.site.specs.declared.Outcome.TheVariants.{Taken, Refused}
 use Rattle.site.specs.declared.Step.{Step}
@@ -10,7 +13,7 @@ use Rattle.site.specs.declared.Site.{Site}
 use Rattle.site.specs.declared.Answer.{Answer}
 use Rattle.site.specs.declared.Counts.{Counts}
 use Rattle.site.specs.Site.{start, names_of}
-use Rattle.site.specs.Step.{step_of, none_awaited, none, number_of}
+use Rattle.site.specs.Step.{step_of, none_awaited, none, ground_of}
 use Rattle.run.specs.declared.Run.{Run}
 use Rattle.run.specs.declared.Event.{Event}
 use Rattle.run.specs.declared.Event.TheVariants.{Act, Stop, Cut}
@@ -20,7 +23,7 @@ use Rattle.run.specs.Run.{site_at, outstanding, has_stopped, knows, with_record,
 use Rattle.run.specs.Sound.{sound_run}
 
 -- "Refused: run and site come back unchanged, no message, zero counts"
-abbrev pub refused_run : Run → ℕ → Ran
+abbrev pub refused_run : Run → Refusal → Ran
 refused_run r g = record { run = r; outcome = Refused g; counts = none }
 
 -- what was taken, with so many messages written and nobody awaited
@@ -31,7 +34,7 @@ taken_run r m = record { run = r; outcome = Taken; counts = none_awaited m }
 
 -- "fresh n not 2..8" is ground 1, and "A refused fresh is the same with n 0 in run and records"
 unfoldable pub fresh_of : ℕ → Ran
-fresh_of n = cond (leb 2 n && leb n 8) (taken_run (fresh_run n) 0) (refused_run (fresh_run 0) 1)
+fresh_of n = cond (leb 2 n && leb n 8) (taken_run (fresh_run n) 0) (refused_run (fresh_run 0) NotSound)
 
 -- ---- the grounds, in their order
 
@@ -54,17 +57,17 @@ is_there r s (Notice o) = has_stopped r o && not (knows r s o)
 is_there r s TakeOver = true
 is_there r s Conclude = true
 
--- a step of site s, whole or cut short: 2, 3, 4, then the site's own, 5 or 6; 0 where none holds
-unfoldable pub step_ground : Run → ℕ → Step → ℕ
+-- a step of site s, whole or cut short: 2, 3, 4, then the site's own, 5 or 6, where one holds
+unfoldable pub step_ground : Run → ℕ → Step → Test
 step_ground r s t =
-    cond (is_actor r s && names_of (site_at r s) t) (cond (has_stopped r s) 3 (cond (is_there r s t) (number_of (step_of (site_at r s) t).outcome) 4)) 2
+    cond (is_actor r s && names_of (site_at r s) t) (cond (has_stopped r s) (Err ActorStopped) (cond (is_there r s t) (ground_of (step_of (site_at r s) t).outcome) (Err NotThere))) (Err WrongNames)
 
 -- a stop: 2, 3
-unfoldable pub stop_ground : Run → ℕ → ℕ
-stop_ground r s = cond (is_actor r s) (cond (has_stopped r s) 3 0) 2
+unfoldable pub stop_ground : Run → ℕ → Test
+stop_ground r s = cond (is_actor r s) (cond (has_stopped r s) (Err ActorStopped) clear) (Err WrongNames)
 
 -- "a stop during any of the first five .. is refused as that step would be"
-abbrev pub event_ground : Run → Event → ℕ
+abbrev pub event_ground : Run → Event → Test
 event_ground r (Act s t) = step_ground r s t
 event_ground r (Stop s) = stop_ground r s
 event_ground r (Cut s t x) = step_ground r s t
@@ -129,9 +132,9 @@ abbrev pub happened : Run → Event → Ran
 happened r e = record { run = applied r (actor e) (effect_of r e); outcome = outcome_of r e; counts = report_of r e }
 
 -- refused with the first ground that holds, if any does
-abbrev pub unless : ℕ → Run → Ran → Ran
-unless zero r x = x
-unless (suc g) r x = refused_run r (suc g)
+abbrev pub unless : Test → Run → Ran → Ran
+unless (Ok u) r x = x
+unless (Err g) r x = refused_run r g
 
 -- an event of a sound run: grounds 2 to 6
 unfoldable pub goes_of : Run → Event → Ran
@@ -139,7 +142,7 @@ goes_of r e = unless (event_ground r e) r (happened r e)
 
 -- an event of any run: ground 1 comes first
 unfoldable pub event_of : Run → Event → Ran
-event_of r e = cond (sound_run r) (goes_of r e) (refused_run r 1)
+event_of r e = cond (sound_run r) (goes_of r e) (refused_run r NotSound)
 
 -- the event as a live call takes it
 abbrev pub next_of : Run → Event → Ran

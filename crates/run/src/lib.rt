@@ -1,19 +1,22 @@
 // A run of n sites: their records, the stopped ones and the network, and every event of document 01's "The run".
-// An event takes any run. What it cannot accept it refuses with 01's number, and the run comes back as it was.
+// An event takes any run. What it cannot accept it refuses on one of 01's grounds, and the run comes back as it was.
 #![tactic(auto)]
 
-ghost use Rattle.std.specs.Prelude.{◌≡◌, true, cond, not, ◌&&◌, ◌||◌, ℕ, ◌+◌, ◌≤◌, eqb, leb, length};
-ghost use Rattle.sets.specs.Sets.{has, subset, below_of, with_site};
+ghost use Rattle.std.specs.Prelude.{◌≡◌, true, not, ◌&&◌, ◌||◌, ℕ, ◌+◌, ◌≤◌, eqb, leb};
+ghost use Rattle.sets.specs.Sets.{has, subset, below_of};
 ghost use Rattle.site.specs.Site.{sound_of};
 ghost use Rattle.site.specs.Step.{none_awaited};
 ghost use Rattle.run.specs.Run.{fresh_site, fresh_run};
 ghost use Rattle.run.specs.Sound.{every, sound_place, sound_run};
 ghost use Rattle.run.specs.Event.{refused_run, taken_run, fresh_of, got_by, got_from, whole_step, halting, applied, goes_of, event_of};
-ghost use Rattle.run.specs.Tested.{ordered_place, good_run, tested_of, the_run, gone_on};
-ghost use Rattle.run.specs.Reply.{there_in, step_ground_in, reply_from, reply_of};
+ghost use Rattle.run.specs.Tested.{good_run, tested_of, the_run, gone_on};
+ghost use Rattle.run.specs.Reply.{reply_from};
 
-use site::{Answer, Counts, Outcome, Site, State, Step};
+use actor::Actor;
+use refusal::Refusal;
+use site::{Answer, Counts, Outcome, Site, Step};
 
+mod actor;
 mod net;
 
 // The network stands at 8 * (kind - 1) + sender - 1: the set of receivers for which that message is outstanding.
@@ -44,6 +47,7 @@ pub struct Ran {
 
 // A run with what its test found. Only this crate makes one: `good` stands where the run is sound and its leaders are in order, and so stays
 // sound, event by event.
+// That a good run has at most eight sites is no invariant of the type: `gone_on`, the promise of `next`, makes a value of any run and any `good`.
 #[derive(Clone, Copy)]
 pub struct Tested {
     run: Run,
@@ -59,7 +63,8 @@ pub struct Next {
 }
 
 // What an accepted event of a site does to a run: the site's record afterwards, the message that it takes out of the network (kind 0 for
-// none), the messages of one kind that leave, and whether the site stops.
+// none), the messages of one kind that leave, and whether the site stops. Kind 0 is no Option: `whole_step`, `halting` and `applied`, the
+// definitions under `event_of`, have these fields, and an answer tells of its messages so too.
 #[derive(Clone, Copy)]
 struct Effect {
     site: Site,
@@ -70,49 +75,29 @@ struct Effect {
     stops: bool,
 }
 
-// A site's answer to a step that it accepts, or the ground on which the step is refused.
-#[derive(Clone, Copy)]
-enum Reply {
-    Good(Answer),
-    Bad(u8),
-}
-
 // ---- fresh runs
 
+// In q, following 1, all sets empty.
 fn fresh_site(n: u8, i: u8) -> Site
     ensures { result ≡ fresh_site n i }
 {
     Site {
         n,
         number: i,
-        state: State::Q,
         leader: 1,
-        known: 0,
-        yes: 0,
-        no: 0,
-        acked: 0,
+        ..Site::default()
     }
 }
 
-// All in q, following 1, all sets empty, no messages. Places above n are filled like the others.
+// All sites fresh, no messages. Places above n are filled like the others.
 fn fresh_run(n: u8) -> Run
     ensures { result ≡ fresh_run n }
 {
-    let sites = [
-        fresh_site(n, 1),
-        fresh_site(n, 2),
-        fresh_site(n, 3),
-        fresh_site(n, 4),
-        fresh_site(n, 5),
-        fresh_site(n, 6),
-        fresh_site(n, 7),
-        fresh_site(n, 8),
-    ];
     Run {
         n,
         stopped: 0,
-        sites,
-        net: [0u8; 72],
+        sites: [1, 2, 3, 4, 5, 6, 7, 8].map(|i| fresh_site(n, i)),
+        net: [0; 72],
     }
 }
 
@@ -120,18 +105,17 @@ fn fresh_run(n: u8) -> Run
 fn is_count(n: u8) -> bool
     ensures { result ≡ (leb 2 n && leb n 8) }
 {
-    if n < 2 {
-        return false;
-    }
-    n <= 8
+    (2..=8).contains(&n)
 }
 
-// A run of n sites before any event; with n 0 where n is not 2 to 8.
+// A run of n sites before any event; with n 0, and refused, where n is not 2 to 8. No Err in place of that run: what may not change, `fresh`
+// (`fresh_of`) always gives one.
+#[tactic(auto, unfolding(crate::specs::Event::fresh_of))]
 pub fn fresh(n: u8) -> Ran
     ensures { result ≡ fresh_of n }
 {
     if !is_count(n) {
-        return fresh_run(0).refused(1);
+        return fresh_run(0).refused(Refusal::NotSound);
     }
     fresh_run(n).taken(0)
 }
@@ -142,100 +126,33 @@ pub fn fresh(n: u8) -> Ran
 fn sound_place(site: Site, n: u8, stopped: u8, i: u8) -> bool
     ensures { result ≡ (sound_of site && eqb site.n n && eqb site.number i && subset site.known stopped) }
 {
-    if !site.sound() {
-        return false;
-    }
-    if site.n != n {
-        return false;
-    }
-    if site.number != i {
-        return false;
-    }
-    sets::subset(site.known, stopped)
+    site.sound() && site.n == n && site.number == i && sets::subset(site.known, stopped)
 }
 
 // Does site i, if it runs and leads, know all lower sites stopped?
 fn ordered_place(site: Site, stopped: u8, i: u8) -> bool
     ensures { result ≡ (has stopped i || not (eqb site.leader i) || subset (below_of i) site.known) }
 {
-    if sets::member(stopped, i) {
-        return true;
-    }
-    if site.leader != i {
-        return true;
-    }
-    sets::subset(sets::below(i), site.known)
-}
-
-// Is there what a step of site s is about? A delivered message is outstanding; a noticed site is among the news,
-// the stopped sites that s does not know of.
-fn is_there(step: Step, s: u8, news: u8, net: &[u8; 72]) -> bool
-    requires { length net.now ≡ 72 }
-    ensures { result ≡ there_in step s news net.now }
-{
-    match step {
-        Step::Begin(_) => true,
-        Step::Start(from, _) => net::holds(net, site::START, from, s),
-        Step::Deliver(kind, from) => net::holds(net, kind, from, s),
-        Step::Notice(o) => sets::member(news, o),
-        Step::TakeOver => true,
-        Step::Conclude => true,
-    }
-}
-
-// The first of the grounds 2 to 4 on which a step of site s, one of the run's, is refused, 0 for none.
-fn ground(site: Site, s: u8, step: Step, stopped: u8, net: &[u8; 72]) -> u8
-    requires { length net.now ≡ 72 }
-    ensures { result ≡ step_ground_in site s step stopped net.now }
-{
-    if !site.names(step) {
-        return 2;
-    }
-    if sets::member(stopped, s) {
-        return 3;
-    }
-    let news = sets::minus(stopped, site.known);
-    if !is_there(step, s, news, net) {
-        return 4;
-    }
-    0
+    sets::member(stopped, i) || site.leader != i || sets::subset(sets::below(i), site.known)
 }
 
 // A site's answer, or the ground on which it refuses.
-fn reply_from(answer: Answer) -> Reply
+fn reply_from(answer: Answer) -> Result<Answer, Refusal>
     ensures { result ≡ reply_from answer.outcome answer }
 {
-    let outcome = answer.outcome;
-    if let Outcome::Refused(ground) = outcome {
-        return Reply::Bad(ground);
-    }
-    Reply::Good(answer)
+    answer.outcome.told()?;
+    Ok(answer)
 }
 
-// The message that a step delivers: its kind, 0 for none, and its sender.
-fn got_by(step: Step) -> u8
-    ensures { result ≡ got_by step }
+// The message that a step delivers: its kind, 0 for none, and its sender. (0, 0) and no Option: `got_by` and `got_from` say 0.
+fn got(step: Step) -> (u8, u8)
+    ensures kind { result.0 ≡ got_by step }
+    ensures sender { result.1 ≡ got_from step }
 {
     match step {
-        Step::Begin(_) => 0,
-        Step::Start(_, _) => site::START,
-        Step::Deliver(kind, _) => kind,
-        Step::Notice(_) => 0,
-        Step::TakeOver => 0,
-        Step::Conclude => 0,
-    }
-}
-
-fn got_from(step: Step) -> u8
-    ensures { result ≡ got_from step }
-{
-    match step {
-        Step::Begin(_) => 0,
-        Step::Start(from, _) => from,
-        Step::Deliver(_, from) => from,
-        Step::Notice(_) => 0,
-        Step::TakeOver => 0,
-        Step::Conclude => 0,
+        Step::Start(from, _) => (site::START, from),
+        Step::Deliver(kind, from) => (kind, from),
+        Step::Begin(_) | Step::Notice(_) | Step::TakeOver | Step::Conclude => (0, 0),
     }
 }
 
@@ -243,27 +160,15 @@ fn got_from(step: Step) -> u8
 fn whole(step: Step, answer: Answer) -> Effect
     ensures { result ≡ whole_step step answer }
 {
-    let site = answer.site;
-    let got = got_by(step);
-    let from = got_from(step);
+    let (got, from) = got(step);
     Effect {
-        site,
+        site: answer.site,
         got,
         from,
         kind: answer.kind,
         to: answer.to,
         stops: false,
     }
-}
-
-// The stopped sites, and site s with them if it stops.
-fn stopped_with(stopped: u8, s: u8, stops: bool) -> u8
-    ensures { result ≡ cond stops (with_site stopped s) stopped }
-{
-    if !stops {
-        return stopped;
-    }
-    sets::with(stopped, s)
 }
 
 // What a stop does, after messages of a kind to some sites have left: the record stays.
@@ -286,19 +191,18 @@ fn none_awaited(written: u8) -> Counts
 {
     Counts {
         written,
-        awaited: 0,
-        lowest: 0,
+        ..Counts::default()
     }
 }
 
 impl Run {
     // The run as it was, with a ground and zero counts.
-    fn refused(self, ground: u8) -> Ran
-        ensures { result ≡ refused_run self ground }
+    fn refused(self, why: Refusal) -> Ran
+        ensures { result ≡ refused_run self why }
     {
         Ran {
             run: self,
-            outcome: Outcome::Refused(ground),
+            outcome: Outcome::Refused(why),
             counts: none_awaited(0),
         }
     }
@@ -315,61 +219,54 @@ impl Run {
     }
 
     // Is every record of 1 to n right for its place?
-    fn sound_places(self) -> bool
-        requires { self.n ≤ 8 }
-        ensures { result ≡ every self.n (λ (i : ℕ). sound_place self (i + 1)) }
+    fn sound_places(&self) -> bool
+        requires { self.now.n ≤ 8 }
+        ensures { result ≡ every self.now.n (λ (i : ℕ). sound_place self.now (i + 1)) }
     {
-        let n = self.n;
-        let stopped = self.stopped;
-        let sites = self.sites;
-        let mut i: u8 = 0;
-        while i < n {
-            let site = sites[i as usize];
-            if !sound_place(site, n, stopped, i + 1) {
-                return false;
-            }
-            i += 1;
-        }
-        true
+        (1..=self.n)
+            .zip(&self.sites)
+            .all(|(i, site)| sound_place(*site, self.n, self.stopped, i))
     }
 
     // Is the run one that 01 allows?
-    fn sound(self) -> bool
-        ensures { result ≡ sound_run self }
+    #[tactic(auto, unfolding(crate::specs::Sound::sound_run, crate::specs::Sound::sound_entry))]
+    fn sound(&self) -> bool
+        ensures { result ≡ sound_run self.now }
     {
-        let n = self.n;
-        let stopped = self.stopped;
-        if !is_count(n) {
-            return false;
-        }
-        if !sets::subset(stopped, sets::all_of(n)) {
-            return false;
-        }
-        if !self.sound_places() {
-            return false;
-        }
-        net::sound(&self.net, n, stopped)
+        is_count(self.n)
+            && sets::subset(self.stopped, sets::all_of(self.n))
+            && self.sound_places()
+            && net::sound(&self.net, self.n, self.stopped)
     }
 
-    // Site s is asked for a step: its answer, or the first ground on which the step is refused, 2 to 4 and then the site's own.
-    fn reply(self, s: u8, step: Step) -> Reply
-        requires { self.n ≤ 8 }
-        ensures { result ≡ reply_of self s step }
+    // Is the run sound, and does every running leader know all lower sites stopped?
+    fn good(&self) -> bool
+        ensures { result ≡ good_run self.now }
     {
-        let n = self.n;
-        if s < 1 {
-            return Reply::Bad(2);
+        self.sound()
+            && (1..=self.n)
+                .zip(&self.sites)
+                .all(|(i, site)| ordered_place(*site, self.stopped, i))
+    }
+
+    // An event of a run of at most eight sites, tested for soundness or known to be sound.
+    #[tactic(auto, unfolding(crate::specs::Event::goes_of, crate::specs::Event::stop_ground, crate::specs::Event::step_ground, crate::specs::Event::is_actor))]
+    fn goes(self, event: Event) -> Ran
+        requires { self.n ≤ 8 }
+        ensures { result ≡ goes_of self event }
+    {
+        let s = match event {
+            Event::Act(s, _) | Event::Stop(s) | Event::Cut(s, _, _) => s,
+        };
+        if !(1..=self.n).contains(&s) {
+            return self.refused(Refusal::WrongNames);
         }
-        if n < s {
-            return Reply::Bad(2);
+        let actor = Actor { run: &self, s };
+        match event {
+            Event::Act(_, step) => actor.acts(step),
+            Event::Stop(_) => actor.stops(),
+            Event::Cut(_, step, x) => actor.stops_inside(step, x),
         }
-        let i = (s - 1) as usize;
-        let site = self.sites[i];
-        let ground = ground(site, s, step, self.stopped, &self.net);
-        if ground != 0 {
-            return Reply::Bad(ground);
-        }
-        reply_from(site.step(step))
     }
 
     // What an event of site s does is put into the run. Messages to stopped sites do not enter the network.
@@ -377,114 +274,15 @@ impl Run {
         requires { (1 ≤ s) × (s ≤ 8) }
         ensures { result ≡ applied self s effect }
     {
-        let i = (s - 1) as usize;
-        let site = effect.site;
-        let stops = effect.stops;
-        self.sites[i] = site;
+        self.sites[usize::from(s - 1)] = effect.site;
         net::take_out(&mut self.net, effect.got, effect.from, s);
-        self.stopped = stopped_with(self.stopped, s, stops);
-        net::clear(&mut self.net, s, stops);
+        if effect.stops {
+            self.stopped = sets::with(self.stopped, s);
+            net::clear(&mut self.net, s);
+        }
         let entering = sets::minus(effect.to, self.stopped);
         net::send(&mut self.net, effect.kind, s, entering);
         self
-    }
-
-    // Site s takes a step.
-    fn acts(self, s: u8, step: Step) -> Ran
-        requires { self.n ≤ 8 }
-        ensures { result ≡ goes_of self (Event.Act s step) }
-    {
-        match self.reply(s, step) {
-            Reply::Good(answer) => {
-                let run = self.put(s, whole(step, answer));
-                let outcome = answer.outcome;
-                let counts = answer.counts;
-                Ran {
-                    run,
-                    outcome,
-                    counts,
-                }
-            }
-            Reply::Bad(ground) => self.refused(ground),
-        }
-    }
-
-    // Site s stops.
-    fn stops(self, s: u8) -> Ran
-        requires { self.n ≤ 8 }
-        ensures { result ≡ goes_of self (Event.Stop s) }
-    {
-        let n = self.n;
-        if s < 1 {
-            return self.refused(2);
-        }
-        if n < s {
-            return self.refused(2);
-        }
-        if sets::member(self.stopped, s) {
-            return self.refused(3);
-        }
-        let i = (s - 1) as usize;
-        let site = self.sites[i];
-        self.put(s, halt(site, 0, 0)).taken(0)
-    }
-
-    // Site s stops inside a step, after its messages to x have left.
-    fn stops_inside(self, s: u8, step: Step, x: u8) -> Ran
-        requires { self.n ≤ 8 }
-        ensures { result ≡ goes_of self (Event.Cut s step x) }
-    {
-        match self.reply(s, step) {
-            Reply::Good(answer) => {
-                let i = (s - 1) as usize;
-                let site = self.sites[i];
-                let leaving = sets::both(answer.to, x);
-                self.put(s, halt(site, answer.kind, leaving))
-                    .taken(sets::count(leaving))
-            }
-            Reply::Bad(ground) => self.refused(ground),
-        }
-    }
-
-    // An event of a run that is known to be sound.
-    fn goes(self, event: Event) -> Ran
-        requires { self.n ≤ 8 }
-        ensures { result ≡ goes_of self event }
-    {
-        match event {
-            Event::Act(s, step) => self.acts(s, step),
-            Event::Stop(s) => self.stops(s),
-            Event::Cut(s, step, x) => self.stops_inside(s, step, x),
-        }
-    }
-
-    // Does every running leader know all lower sites stopped?
-    fn ordered_places(self) -> bool
-        requires { self.n ≤ 8 }
-        ensures { result ≡ every self.n (λ (i : ℕ). ordered_place self (i + 1)) }
-    {
-        let n = self.n;
-        let stopped = self.stopped;
-        let sites = self.sites;
-        let mut i: u8 = 0;
-        while i < n {
-            let site = sites[i as usize];
-            if !ordered_place(site, stopped, i + 1) {
-                return false;
-            }
-            i += 1;
-        }
-        true
-    }
-
-    // Is the run sound, with its leaders in order?
-    fn good(self) -> bool
-        ensures { result ≡ good_run self }
-    {
-        if !self.sound() {
-            return false;
-        }
-        self.ordered_places()
     }
 
     // The run is tested once, for all events to come.
@@ -495,36 +293,16 @@ impl Run {
         Tested { run: self, good }
     }
 
-    // An event happens; a run that is known to be good need not be tested.
-    fn stepped(self, event: Event, good: bool) -> Ran
-        requires { good ≡ true → self.n ≤ 8 }
-        ensures { result ≡ cond good (goes_of self event) (event_of self event) }
-    {
-        if good {
-            return self.goes(event);
-        }
-        if !self.sound() {
-            return self.refused(1);
-        }
-        self.goes(event)
-    }
-
     // An event happens in any run.
+    #[tactic(auto, using(crate::proofs::SoundLaws::n_most), unfolding(crate::specs::Event::event_of))]
     pub fn happens(self, event: Event) -> Ran
         ensures { result ≡ event_of self event }
     {
-        self.stepped(event, false)
+        if !self.sound() {
+            return self.refused(Refusal::NotSound);
+        }
+        self.goes(event)
     }
-}
-
-// Was a run of so many sites found good? None of more than eight is; that is tested, so that no caller need show it.
-fn known(good: bool, n: u8) -> bool
-    ensures { result ≡ (good && leb n 8) }
-{
-    if 8 < n {
-        return false;
-    }
-    good
 }
 
 impl Tested {
@@ -536,20 +314,21 @@ impl Tested {
     }
 
     // An event happens; a run that was not found good is tested for soundness first.
+    #[tactic(auto, unfolding(crate::specs::Tested::gone_on))]
     pub fn next(self, event: Event) -> Next
         ensures { result ≡ gone_on self event }
     {
         let before = self.run;
-        let good = known(self.good, before.n);
-        let ran = before.stepped(event, good);
-        let run = ran.run;
-        let outcome = ran.outcome;
-        let counts = ran.counts;
-        let tested = Tested { run, good };
+        let good = self.good && before.n <= 8;
+        let ran = if good {
+            before.goes(event)
+        } else {
+            before.happens(event)
+        };
         Next {
-            tested,
-            outcome,
-            counts,
+            tested: Tested { run: ran.run, good },
+            outcome: ran.outcome,
+            counts: ran.counts,
         }
     }
 }

@@ -1,16 +1,14 @@
 -- `run::Run::put` meets its contract.
 -- Assumes nothing.
-use mathlib.Core.Path.{ap, ◌∙◌}
-use lib.ListN.{length, length-set}
-use Rattle.run.proofs.Applied.{net_long, put_is}
-use borrow.Author.Rules.{rules}
+use Rattle.std.proofs.Common.{◌∙◌, true, false}
+use Rattle.run.specs.Run.{taken_out, stopped_at}
+use Rattle.run.proofs.Applied.{put_is}
 use Rattle.run.proofs.Run.put.Goals as goal
-
-pub clear-requires : goal.clear-requires
-clear-requires c = ap length c.take_out.ensures ∙ simp length-set (search rules)
-
-pub send-requires : goal.send-requires
-send-requires c = ap length c.clear.ensures ∙ net_long c.take_out.new.net c.args.s c.args.effect.stops ∙ ap length c.take_out.ensures ∙ simp length-set (search rules)
+use Rattle.run.proofs.Run.put.Goals.{then-effect, else-effect}
 
 pub returns : goal.returns
-returns c = simp (c.send.ensures, c.minus-entering.ensures, c.clear.ensures, c.stopped_with.ensures, c.take_out.ensures) (put_is _ _ _)
+unfolding stopped_at taken_out
+returns c = let a = c.args in elim c.if-effect.branch [
+  | then-effect w ↦ put_is a.self a.s a.effect true w.if-effect.true c.if-effect.self (w.self-is ∙ simp (w.with.ensures, w.clear.ensures, c.take_out.ensures, c.from.ensures)) c.send.new.net (c.send.ensures ∙ simp c.minus-entering.ensures)
+  | else-effect w ↦ put_is a.self a.s a.effect false w.if-effect.false c.if-effect.self (w.self-is ∙ simp (c.take_out.ensures, c.from.ensures)) c.send.new.net (c.send.ensures ∙ simp c.minus-entering.ensures)
+]

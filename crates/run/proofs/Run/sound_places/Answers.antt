@@ -1,37 +1,11 @@
--- What is left to show.
-use borrow.Author.Rules.{rules}
-use mathlib.Core.Path.{refl}
-use native.Mathlib.Omega.{arith}
+-- `run::Run::sound_places` meets its contract.
+-- Assumes nothing.
+use Rattle.std.proofs.Common.{ℕ, ◌+◌, rules}
+use Rattle.std.proofs.iter.runs.Sources.{ranges}
 use Rattle.run.specs.Sound.{sound_place}
-use Rattle.run.proofs.Places.{wrong_at, right_at, right_all}
+use Rattle.run.proofs.SoundLaws.{every_iff}
 use Rattle.run.proofs.Run.sound_places.Goals as goal
-use Rattle.run.proofs.Run.sound_places.Invariants.{right}
-
-pub loop-i-init : goal.loop-i-init
-loop-i-init c = (search rules, refl)
-
-pub bounds-sites-i : goal.bounds-sites-i
-bounds-sites-i c = omega (arith, c.requires)
-
-pub overflow_add-i : goal.overflow_add-i
-overflow_add-i c = omega (arith, c.requires)
-
-pub returns-then-not-sound_place : goal.returns-then-not-sound_place
-unfolding sound_place
-returns-then-not-sound_place c =
-    let a = c.args.self in
-    wrong_at (right a.n a.stopped) a.sites a.n c.loop-i.i c.sound_place.result c.sound_place.ensures (omega arith) c.if-not-sound_place.true-raw
-
-pub overflow_add-i-in-loop-i : goal.overflow_add-i-in-loop-i
-overflow_add-i-in-loop-i c = omega (arith, c.requires)
-
-pub loop-i-preserved : goal.loop-i-preserved
-loop-i-preserved c =
-    let a = c.args.self in
-    (search rules, right_at (right a.n a.stopped) a.sites a.n c.loop-i.i c.sound_place.result c.sound_place.ensures c.loop-i.invariant.1 c.if-not-sound_place.false-raw)
 
 pub returns : goal.returns
 unfolding sound_place
-returns c =
-    let a = c.args.self in
-    right_all (right a.n a.stopped) a.sites a.n c.loop-i.i (omega arith) (omega arith) c.loop-i.invariant.1
+returns c = every_iff (λ (i : ℕ). sound_place c.args.self.now (i + 1)) c.args.self.now.n c.all.result (search (rules, ranges)) (search (rules, ranges))

@@ -1,13 +1,8 @@
 -- `run::net::clear` meets its contract.
 -- Assumes nothing.
-use Prim.Native.Nat.{ℕ, ◌≤◌, ◌-◌}
-use mathlib.Core.Path.{◌≡◌}
-use Rattle.sets.specs.Sets.{minus}
-use Rattle.run.proofs.RunLists.{map_to}
+use Rattle.std.proofs.Common.{ℕ, ◌≡◌, map, take, drop, ◌++◌}
+use Rattle.sets.specs.Sets.{without}
 use Rattle.run.proofs.net.clear.Given as goal
 
-abbrev pub invariant-loop-k : goal.invariant-loop-k
-invariant-loop-k l = (l.k ≤ 72) × (l.net ≡ map_to (λ (m : ℕ). minus m l.gone) l.initial.net l.k)
-
-abbrev pub decreases-loop-k : goal.decreases-loop-k
-decreases-loop-k l = 72 - l.k
+abbrev pub invariant-loop-to : goal.invariant-loop-to
+invariant-loop-to l = l.net ≡ map (λ (m : ℕ). without m l.s) (take l.to-index l.initial.net) ++ drop l.to-index l.initial.net

@@ -1,19 +1,11 @@
--- What is left to show.
-use borrow.Author.Rules.{rules}
-use mathlib.Core.Path.{refl, sym}
-use native.Mathlib.Omega.{arith}
-use Rattle.run.proofs.RunLists.{every_more, every_fails, every_up, test_fails, test_holds}
+-- `run::net::sound` meets its contract.
+-- Assumes nothing.
+use Rattle.std.proofs.Common.{ℕ, ◌+◌, ◌/◌, ◌%◌, get_or, rules}
+use Rattle.std.proofs.iter.runs.Made.{chains}
+use Rattle.sets.specs.Sets.{minus, subset}
+use Rattle.run.specs.Sound.{may_reach}
+use Rattle.run.proofs.SoundLaws.{every_iff}
 use Rattle.run.proofs.net.sound.Goals as goal
-use Rattle.run.proofs.net.sound.Invariants.{right}
-
-pub loop-at-init : goal.loop-at-init
-loop-at-init c = (search rules, refl)
-
-pub returns-then-not-sound_entry : goal.returns-then-not-sound_entry
-returns-then-not-sound_entry c = sym (every_fails (right c.args.net.now c.args.n c.args.stopped) 72 c.loop-at.at (omega arith) (test_fails c.sound_entry.ensures c.if-not-sound_entry.true-raw))
-
-pub loop-at-preserved : goal.loop-at-preserved
-loop-at-preserved c = (search rules, every_more (right c.args.net.now c.args.n c.args.stopped) c.loop-at.at c.loop-at.invariant.1 (test_holds c.sound_entry.ensures c.if-not-sound_entry.false-raw))
 
 pub returns : goal.returns
-returns c = sym (every_up (right c.args.net.now c.args.n c.args.stopped) 72 c.loop-at.at (omega arith) (omega arith) c.loop-at.invariant.1)
+returns c = every_iff (λ (at : ℕ). subset (get_or c.args.net.now at 0) (minus (may_reach c.args.n (at / 8 + 1) (at % 8 + 1)) c.args.stopped)) 72 _ (search (rules, chains)) (search (rules, chains))
