@@ -7,6 +7,9 @@ use mathlib.Core.List.{List, [], ◌∷◌, ◌++◌, flat_map, append_assoc}
 use mathlib.Core.Path.{◌≡◌, refl, sym, ap, ◌∙◌}
 use native.Mathlib.Nat.{le_of_eq}
 use native.Mathlib.Omega.{arith}
+use Rattle.std.specs.Prelude.{Err}
+use Rattle.refusal.specs.declared.Refusal.TheVariants.{NoRoom}
+use Rattle.refusal.specs.Refusals.{Test, clear}
 use lib.Dec.{eqb, leb}
 use lib.ListN.{length, get_or, take, drop, take-append-drop, length-append, length-drop}
 use lib.Seq.{drop-drop, drop_at, take_all}
@@ -82,7 +85,7 @@ site_again l h =
     ∙ take_all site_size l (le_of_eq (site_sized l h))
 
 -- behind a site's are the next one's
-further : (i : ℕ) (l : List ℕ) → drop (site_size * i) (drop site_size l) ≡ drop (site_size * suc i) l
+pub further : (i : ℕ) (l : List ℕ) → drop (site_size * i) (drop site_size l) ≡ drop (site_size * suc i) l
 further i l = drop-drop (site_size * i) site_size l ∙ ap (λ (k : ℕ). drop k l) next
   where
     next : site_size + site_size * i ≡ site_size * suc i
@@ -201,41 +204,41 @@ module _ (r : Run) (h : Shape r) where
 
 module _ (size : ℕ) (l : List ℕ) where
   -- it is refused exactly where the bytes are not as many
-  pub fitting : length l ≡ size → length_ground size l ≡ 0
+  pub fitting : length l ≡ size → length_ground size l ≡ clear
   unfolding length_ground
   fitting e = simp (eq-eqb (length l) size e)
 
-  pub unfitting : (length_ground size l ≡ 0 → ⊥) → eqb (length l) size ≡ false
+  pub unfitting : (length_ground size l ≡ clear → ⊥) → eqb (length l) size ≡ false
   unfitting h = ne_eqb (length l) size (λ e. h (fitting e))
 
-  pub fits : length_ground size l ≡ 0 → length l ≡ size
+  pub fits : length_ground size l ≡ clear → length l ≡ size
   unfolding length_ground
   fits h = go (eqb (length l) size) refl h
     where
-      go : (b : Bool) → eqb (length l) size ≡ b → ◌≡◌ {A = ℕ} (cond b 0 15) 0 → length l ≡ size
+      go : (b : Bool) → eqb (length l) size ≡ b → ◌≡◌ {A = Test} (cond b clear (Err NoRoom)) clear → length l ≡ size
       go true e h = eqb-true (length l) size e
-      go false e h = absurd (omega arith)
+      go false e h = cc
 
   -- and where it is not, what was to be written stands there
   pub fitted : length l ≡ size → (new : List ℕ) → replaced size l new ≡ new
   unfolding replaced
   fitted e new = simp (eq-eqb (length l) size e)
 
-  written : length_ground size l ≡ 0 → (new : List ℕ) → replaced size l new ≡ new
+  written : length_ground size l ≡ clear → (new : List ℕ) → replaced size l new ≡ new
   written h new = fitted (fits h) new
 
 -- that is read back
-pub site_written : (l : List ℕ) (s : Site) → length_ground site_size l ≡ 0 → site_in (replaced site_size l (site_bytes s)) ≡ s
+pub site_written : (l : List ℕ) (s : Site) → length_ground site_size l ≡ clear → site_in (replaced site_size l (site_bytes s)) ≡ s
 site_written l s h = ap site_in (written site_size l h (site_bytes s)) ∙ site_back s
 
-pub run_written : (l : List ℕ) (r : Run) → Shape r → length_ground run_size l ≡ 0 → run_in (replaced run_size l (run_bytes r)) ≡ r
+pub run_written : (l : List ℕ) (r : Run) → Shape r → length_ground run_size l ≡ clear → run_in (replaced run_size l (run_bytes r)) ≡ r
 run_written l r s h = ap run_in (written run_size l h (run_bytes r)) ∙ run_back r s
 
 -- and of what was read it is the same bytes
-pub site_rewritten : (l room : List ℕ) → is_site_bytes l ≡ true → length_ground site_size room ≡ 0 → replaced site_size room (site_bytes (site_in l)) ≡ l
+pub site_rewritten : (l room : List ℕ) → is_site_bytes l ≡ true → length_ground site_size room ≡ clear → replaced site_size room (site_bytes (site_in l)) ≡ l
 site_rewritten l room s h = written site_size room h (site_bytes (site_in l)) ∙ site_again l s
 
-pub run_rewritten : (l room : List ℕ) → is_run_bytes l ≡ true → length_ground run_size room ≡ 0 → replaced run_size room (run_bytes (run_in l)) ≡ l
+pub run_rewritten : (l room : List ℕ) → is_run_bytes l ≡ true → length_ground run_size room ≡ clear → replaced run_size room (run_bytes (run_in l)) ≡ l
 run_rewritten l room s h = written run_size room h (run_bytes (run_in l)) ∙ run_again l s
 
 -- ---- what is neither

@@ -1,29 +1,27 @@
--- For the proof of the run's writer: a run's bytes, put piece by piece.
+-- For the proof of the run's writer: its head, its sites and its network, one behind the other.
 -- Assumes nothing.
-use Prim.Native.Nat.{ℕ}
-use mathlib.Core.List.{List, [], ◌∷◌, ◌++◌, flat_map, flatten, append-nil}
-use mathlib.Core.Path.{◌≡◌, sym, ap, ◌∙◌}
+use Prim.Native.Nat.{ℕ, ◌-◌, ◌+◌, ◌≤◌}
+use mathlib.Core.List.{List, ◌++◌, append_assoc, append-nil}
+use mathlib.Core.Path.{◌≡◌, ap, ◌∙◌}
 use native.Mathlib.Omega.{arith}
-use lib.ListN.{length}
-use Rattle.text.proofs.Putting.{Going, begin, ended, put_whole}
-use Rattle.run.specs.declared.Run.{Run}
-use Rattle.run.proofs.Views.{Shape}
-use Rattle.packed.specs.Bytes.{run_size, site_bytes, run_head, run_bytes}
-use Rattle.packed.proofs.BytesLaws.{run_length}
+use lib.ListN.{length, take, drop, length-drop, drop_of_length-le}
+use borrow.Rule.Slice.PartMut.{put_mid}
+use Rattle.std.proofs.lemmas.Grind.{common_steps}
+use Rattle.std.proofs.lemmas.Slice.{take-put_mid}
 
-abbrev pub pieces : Run → List (List ℕ)
-pieces r = run_head r ∷ flat_map site_bytes r.sites ∷ r.net ∷ []
+-- a part of so many bytes at the front, one of n behind it, and one behind both, to the end
+module _ (l head mid net : List ℕ) (at n : ℕ) (front : length head ≡ at) (long : length mid ≡ n) (whole : length l ≡ at + n + length net) where
+  abbrev so_far : List ℕ
+  so_far = put_mid at n (head ++ drop at l) mid
 
-pieces_are : (r : Run) → flatten (pieces r) ≡ run_bytes r
-unfolding flatten run_bytes
-pieces_are r = ap (λ (x : List ℕ). run_head r ++ (flat_map site_bytes r.sites ++ x)) (append-nil r.net)
+  lead : take at (head ++ drop at l) ≡ head
+  lead = grind (arith, common_steps)
 
-module _ (l : List ℕ) (r : Run) (whole : length l ≡ run_size) (shape : Shape r) where
-  fits : length (flatten (pieces r)) ≡ length l
-  fits = ap length (pieces_are r) ∙ run_length r shape ∙ sym whole
-
-  pub run_begins : Going l 0 (flatten (pieces r)) (pieces r) l 0
-  run_begins = begin l 0 (pieces r) (omega (arith, fits))
-
-  pub run_ends : {last : List ℕ} {q : ℕ} → Going l 0 (flatten (pieces r)) [] last q → last ≡ run_bytes r
-  run_ends g = put_whole (ended g) fits ∙ pieces_are r
+  pub put_behind : put_mid (at + n) (length so_far - (at + n)) so_far net ≡ head ++ (mid ++ net)
+  put_behind =
+      let before : take (at + n) so_far ≡ head ++ mid =
+      take-put_mid at n (head ++ drop at l) mid (at + n) (omega arith) (grind (arith, common_steps)) ∙ ap (λ (x : List ℕ). x ++ mid) lead in
+      let all : length (drop (at + n) so_far) ≤ length so_far - (at + n) = omega (arith, length-drop (at + n) so_far) in
+      (λ j. before j ++ (net ++ drop_of_length-le (drop (at + n) so_far) all j))
+      ∙ ap (λ (x : List ℕ). head ++ mid ++ x) (append-nil net)
+      ∙ append_assoc head mid net

@@ -1,7 +1,10 @@
 -- A site and a run as bytes: how many they have, what stands where, when bytes are one, and how they are read and written.
 -- Assumes nothing.
-use Rattle.std.specs.Prelude.{ℕ, zero, suc, ◌+◌, ◌*◌, Bool, cond, ◌&&◌, eqb, leb, length, get_or, take, drop}
+use Rattle.std.specs.Prelude.{ℕ, zero, suc, ◌+◌, ◌*◌, Bool, cond, ◌&&◌, eqb, leb, length, get_or, take, drop, Err}
+use Rattle.refusal.specs.declared.Refusal.TheVariants.{NoRoom}
+use Rattle.refusal.specs.Refusals.{Test, clear}
 use mathlib.Core.List.{List, [], ◌∷◌, ◌++◌, flat_map}
+use Rattle.std.specs.Simd.{first_chunks}
 use Rattle.site.specs.declared.State.{State}
 use Rattle.site.specs.declared.State.TheVariants.{Q, W, P, A, C}
 use Rattle.site.specs.declared.Site.{Site}
@@ -79,6 +82,10 @@ abbrev pub sites_from : ℕ → List ℕ → List Site
 sites_from zero l = []
 sites_from (suc k) l = site_from l ∷ sites_from k (drop site_size l)
 
+-- the rows of a run's sites
+unfoldable pub rows_in : List ℕ → List (List ℕ)
+rows_in l = first_chunks site_size 8 (drop sites_at l)
+
 unfoldable pub run_from : List ℕ → Run
 run_from l = remade (fresh_run (get_or l 0 0)) (get_or l 1 0) (sites_from 8 (drop sites_at l)) (take 72 (drop net_at l))
 
@@ -93,8 +100,8 @@ run_in l = cond (is_run_bytes l) (run_from l) (fresh_run 0)
 -- ---- in lent bytes
 
 -- 15 is given to bytes of another number than is written
-unfoldable pub length_ground : ℕ → List ℕ → ℕ
-length_ground size l = cond (eqb (length l) size) 0 15
+unfoldable pub length_ground : ℕ → List ℕ → Test
+length_ground size l = cond (eqb (length l) size) clear (Err NoRoom)
 
 -- and they stay as they are
 unfoldable pub replaced : ℕ → List ℕ → List ℕ → List ℕ

@@ -3,16 +3,17 @@
 // bytes of another number are not written, and 15 comes back.
 #![tactic(auto)]
 
-ghost use Rattle.std.specs.Prelude.{◌≡◌, ◌+◌, ◌*◌, ◌≤◌, length, take, drop};
-ghost use mathlib.Core.List.{flat_map};
-ghost use Rattle.text.specs.Text.{Put};
-ghost use Rattle.run.specs.Run.{no_site};
-ghost use Rattle.packed.specs.Bytes.{site_size, sites_at, net_at, run_size, state_byte, state_from, site_bytes, site_from, tells_site, is_site_bytes, site_in, run_bytes, sites_from, run_from, is_run_bytes, run_in, length_ground, replaced};
+ghost use Rattle.std.specs.Prelude.{◌≡◌, ◌*◌, length, take, drop};
+ghost use Rattle.std.specs.List.{list_all};
+ghost use mathlib.Core.List.{map, flat_map};
+ghost use Rattle.packed.specs.Bytes.{site_size, net_at, run_size, state_from, site_bytes, site_from, tells_site, is_site_bytes, site_in, run_bytes, rows_in, run_from, is_run_bytes, run_in, length_ground, replaced};
 
+use refusal::Refusal;
 use run::Run;
 use site::{Site, State};
+use std::array;
 
-// A site's bytes: n, number, state, leader, known stopped, yes heard, no heard, acknowledged.
+// A site's bytes, its row: n, number, state, leader, known stopped, yes heard, no heard, acknowledged.
 pub const SITE: usize = 8;
 
 // Where a site's state stands.
@@ -28,22 +29,11 @@ const NET: usize = SITES + 8 * SITE;
 
 // ---- a site
 
-fn state_byte(state: State) -> u8
-    ensures { result ≡ state_byte state }
+// The state of a byte that `tells_site` has passed. No `TryFrom`: neither type is this crate's, and what bytes are is no concern of a site's.
+fn state_from(byte: u8) -> State
+    ensures { result ≡ state_from byte }
 {
-    match state {
-        State::Q => 0,
-        State::W => 1,
-        State::P => 2,
-        State::A => 3,
-        State::C => 4,
-    }
-}
-
-fn state_from(b: u8) -> State
-    ensures { result ≡ state_from b }
-{
-    match b {
+    match byte {
         0 => State::Q,
         1 => State::W,
         2 => State::P,
@@ -52,190 +42,171 @@ fn state_from(b: u8) -> State
     }
 }
 
-// What stands at a place that there is not.
-fn no_site() -> Site
-    ensures { result ≡ no_site }
+// Is this a site's row? It has one of the five states.
+#[tactic(auto, using(std::proofs::lemmas::Bool::Decides::nat_tests), unfolding(crate::specs::Bytes::tells_site))]
+fn tells_site(row: &[u8; SITE]) -> bool
+    ensures { result ≡ tells_site row.now }
 {
+    row[STATE] <= 4
+}
+
+// The site whose row this is.
+#[tactic(auto, unfolding(crate::specs::Bytes::site_from))]
+fn site_from(row: &[u8; SITE]) -> Site
+    ensures { result ≡ site_from row.now }
+{
+    let [n, number, state, leader, known, yes, no, acked] = *row;
     Site {
-        n: 0,
-        number: 0,
-        state: State::Q,
-        leader: 0,
-        known: 0,
-        yes: 0,
-        no: 0,
-        acked: 0,
+        n,
+        number,
+        state: state_from(state),
+        leader,
+        known,
+        yes,
+        no,
+        acked,
     }
 }
 
-// Do these bytes begin with a site's?
-fn tells_site(bytes: &[u8]) -> bool
-    requires { site_size ≤ length bytes.now }
-    ensures { result ≡ tells_site bytes.now }
+// A site's row.
+#[tactic(auto, unfolding(crate::specs::Bytes::site_bytes))]
+fn row_of(site: Site) -> [u8; SITE]
+    ensures { result ≡ site_bytes site }
 {
-    bytes[STATE] <= 4
-}
-
-// The site whose bytes these begin with.
-fn site_from(bytes: &[u8]) -> Site
-    requires { site_size ≤ length bytes.now }
-    ensures { result ≡ site_from bytes.now }
-{
-    Site {
-        n: bytes[0],
-        number: bytes[1],
-        state: state_from(bytes[STATE]),
-        leader: bytes[3],
-        known: bytes[4],
-        yes: bytes[5],
-        no: bytes[6],
-        acked: bytes[7],
-    }
-}
-
-// Puts a site's bytes from a place on, and says where they end.
-fn put_site(bytes: &mut [u8], at: usize, site: Site) -> usize
-    requires { at + site_size ≤ length bytes.old }
-    ensures { Put bytes.old at (site_bytes site) bytes.new result }
-{
-    let state = site.state;
-    let row = [
+    [
         site.n,
         site.number,
-        state_byte(state),
+        site.state as u8,
         site.leader,
         site.known,
         site.yes,
         site.no,
         site.acked,
-    ];
-    text::put(bytes, at, &row)
+    ]
 }
 
 // Are these the bytes of a site?
+#[tactic(auto, using(std::proofs::lemmas::Bool::Decides::nat_tests), unfolding(crate::specs::Bytes::is_site_bytes))]
 pub fn is_site(bytes: &[u8]) -> bool
     ensures { result ≡ is_site_bytes bytes.now }
 {
-    if bytes.len() != SITE {
-        return false;
-    }
-    tells_site(bytes)
+    bytes.as_array().is_some_and(tells_site)
 }
 
-// The site whose bytes these are.
+// The site whose bytes these are; where they are none, one of no sites and no Err, as in read_run: both are public, and neither could fail.
+#[tactic(auto, using(std::proofs::lemmas::Bool::Decides::nat_tests), unfolding(crate::specs::Bytes::site_in, crate::specs::Bytes::is_site_bytes))]
 pub fn read_site(bytes: &[u8]) -> Site
     ensures { result ≡ site_in bytes.now }
 {
-    if !is_site(bytes) {
-        return no_site();
+    match bytes.as_array() {
+        Some(row) if tells_site(row) => site_from(row),
+        _ => Site::default(),
     }
-    site_from(bytes)
 }
 
-// A site's bytes take the place of these. Returns 0 or the refusal.
-pub fn write_site(bytes: &mut [u8], site: Site) -> u8
+// A site's bytes take the place of these.
+#[tactic(auto, using(std::proofs::lemmas::Bool::Decides::nat_tests), unfolding(crate::specs::Bytes::length_ground, crate::specs::Bytes::replaced))]
+pub fn write_site(bytes: &mut [u8], site: Site) -> Result<(), Refusal>
     ensures { (result ≡ length_ground site_size bytes.old) × (bytes.new ≡ replaced site_size bytes.old (site_bytes site)) }
 {
     if bytes.len() != SITE {
-        return 15;
+        return Err(Refusal::NoRoom);
     }
-    put_site(bytes, 0, site);
-    0
+    bytes.copy_from_slice(&row_of(site));
+    Ok(())
 }
 
 // ---- a run
 
-// The eight sites in the bytes of a run.
-fn sites_from(bytes: &[u8]) -> [Site; 8]
-    requires { length bytes.now ≡ run_size }
-    ensures { result ≡ sites_from 8 (drop sites_at bytes.now) }
+// The rows of the eight sites in as many bytes as a run has.
+fn rows_in(run: &[u8; RUN]) -> &[[u8; SITE]]
+    ensures { result.now ≡ rows_in run.now }
 {
-    let mut sites = [no_site(); 8];
-    for i in 0..8 {
-        let at = SITES + SITE * i;
-        sites[i] = site_from(&bytes[at..]);
-    }
-    sites
+    run[SITES..NET].as_chunks().0
+}
+
+// Are the rows all sites'?
+fn tells_run(run: &[u8; RUN]) -> bool
+    ensures { result ≡ list_all tells_site (rows_in run.now) }
+{
+    rows_in(run).iter().all(tells_site)
+}
+
+// The sites whose rows these are.
+fn sites_from(rows: &[[u8; SITE]]) -> [Site; 8]
+    requires { length rows.now ≡ 8 }
+    ensures { result ≡ map site_from rows.now }
+{
+    array::from_fn(|i| site_from(&rows[i]))
 }
 
 // The network in the bytes of a run.
-fn net_from(bytes: &[u8]) -> [u8; 72]
-    requires { length bytes.now ≡ run_size }
-    ensures { result ≡ take 72 (drop net_at bytes.now) }
+fn net_from(run: &[u8; RUN]) -> [u8; 72]
+    ensures { result ≡ take 72 (drop net_at run.now) }
 {
-    let mut net = [0u8; 72];
-    for i in 0..72 {
-        net[i] = bytes[NET + i];
-    }
+    let mut net = [0; 72];
+    net.copy_from_slice(&run[NET..]);
     net
 }
 
 // The run whose bytes these are.
-fn run_from(bytes: &[u8]) -> Run
-    requires { length bytes.now ≡ run_size }
-    ensures { result ≡ run_from bytes.now }
+#[tactic(auto, unfolding(crate::specs::Bytes::run_from))]
+fn run_from(run: &[u8; RUN]) -> Run
+    ensures { result ≡ run_from run.now }
 {
-    let sites = sites_from(bytes);
-    let net = net_from(bytes);
     Run {
-        n: bytes[0],
-        stopped: bytes[1],
-        sites,
-        net,
+        n: run[0],
+        stopped: run[1],
+        sites: sites_from(rows_in(run)),
+        net: net_from(run),
     }
-}
-
-// Puts eight sites' bytes from a place on, one after the other, and says where they end.
-fn put_sites(bytes: &mut [u8], at: usize, sites: [Site; 8]) -> usize
-    requires { at + site_size * 8 ≤ length bytes.old }
-    ensures { Put bytes.old at (flat_map site_bytes sites) bytes.new result }
-{
-    let mut to = at;
-    for i in 0..8 {
-        let site = sites[i];
-        to = put_site(bytes, to, site);
-    }
-    to
 }
 
 // Are these the bytes of a run?
+#[tactic(auto, using(crate::proofs::Reading::run_told, crate::proofs::Reading::run_sized))]
 pub fn is_run(bytes: &[u8]) -> bool
     ensures { result ≡ is_run_bytes bytes.now }
 {
-    if bytes.len() != RUN {
-        return false;
-    }
-    for i in 0..8 {
-        let at = SITES + SITE * i;
-        if !tells_site(&bytes[at..]) {
-            return false;
-        }
-    }
-    true
+    bytes.as_array().is_some_and(tells_run)
 }
 
 // The run whose bytes these are.
+#[tactic(auto, using(crate::proofs::Reading::run_told, crate::proofs::Reading::run_sized), unfolding(crate::specs::Bytes::run_in))]
 pub fn read_run(bytes: &[u8]) -> Run
     ensures { result ≡ run_in bytes.now }
 {
-    if !is_run(bytes) {
-        return run::fresh(0).run;
+    match bytes.as_array() {
+        Some(run) if tells_run(run) => run_from(run),
+        _ => run::fresh(0).run,
     }
-    run_from(bytes)
 }
 
-// A run's bytes take the place of these. Returns 0 or the refusal.
-pub fn write_run(bytes: &mut [u8], run: Run) -> u8
+// The rows of eight sites.
+fn rows_of(sites: [Site; 8]) -> [[u8; SITE]; 8]
+    ensures { result ≡ map site_bytes sites }
+{
+    sites.map(row_of)
+}
+
+// The bytes of eight sites take the place of these.
+#[tactic(auto, using(text::proofs::Putting::rows_joined))]
+fn put_sites(bytes: &mut [u8], sites: [Site; 8])
+    requires { length bytes.old ≡ site_size * 8 }
+    ensures { bytes.new ≡ flat_map site_bytes sites }
+{
+    bytes.copy_from_slice(rows_of(sites).as_flattened());
+}
+
+// A run's bytes take the place of these.
+#[tactic(auto, using(std::proofs::lemmas::Bool::Decides::nat_tests), unfolding(crate::specs::Bytes::length_ground, crate::specs::Bytes::replaced, crate::specs::Bytes::run_bytes, crate::specs::Bytes::run_head))]
+pub fn write_run(bytes: &mut [u8], run: Run) -> Result<(), Refusal>
     ensures { (result ≡ length_ground run_size bytes.old) × (bytes.new ≡ replaced run_size bytes.old (run_bytes run)) }
 {
     if bytes.len() != RUN {
-        return 15;
+        return Err(Refusal::NoRoom);
     }
-    let sites = run.sites;
-    let net = run.net;
-    let head = [run.n, run.stopped];
-    let first = text::put(bytes, 0, &head);
-    let behind = put_sites(bytes, first, sites);
-    text::put(bytes, behind, &net);
-    0
+    bytes[..SITES].copy_from_slice(&[run.n, run.stopped]);
+    put_sites(&mut bytes[SITES..NET], run.sites);
+    bytes[NET..].copy_from_slice(&run.net);
+    Ok(())
 }

@@ -1,19 +1,16 @@
 -- `packed::read_run` meets its contract.
 -- Assumes nothing.
-use mathlib.Core.Path.{sym, ap, ◌∙◌}
-use Rattle.run.specs.declared.Ran.{Ran}
+use borrow.Author.Rules.{rules}
 use Rattle.run.specs.Event.{fresh_of}
 use Rattle.packed.specs.Bytes.{run_in}
-use Rattle.packed.proofs.BytesLaws.{run_sized}
+use Rattle.packed.proofs.Reading.{run_told, run_sized}
+use Rattle.packed.proofs.read_run.Goals.{in_default-via-in-Some+else-tells_run, in_default-via-in_default}
 use Rattle.packed.proofs.read_run.Goals as goal
 
-pub returns-then-not-is_run : goal.returns-then-not-is_run
+pub returns-in_default : goal.returns-in_default
 unfolding run_in fresh_of
-returns-then-not-is_run c = simp (sym c.is_run.ensures ∙ c.if-not-is_run.true) (ap (λ (r : Ran). r.run) c.fresh.ensures)
-
-pub run_from-requires : goal.run_from-requires
-run_from-requires c = run_sized _ (sym c.is_run.ensures ∙ c.if-not-is_run.false)
-
-pub returns : goal.returns
-unfolding run_in
-returns c = simp (sym c.is_run.ensures ∙ c.if-not-is_run.false) c.run_from.ensures
+returns-in_default c =
+    elim c.in_default.branch [
+      | in_default-via-in-Some+else-tells_run w ↦ search (rules, run_told, run_sized, c.fresh.ensures)
+      | in_default-via-in_default w ↦ search (rules, run_told, run_sized, c.fresh.ensures)
+    ]
