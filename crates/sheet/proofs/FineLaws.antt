@@ -3,19 +3,19 @@
 use Prim.Native.Nat.{ℕ, ◌+◌, ◌-◌, ◌*◌, ◌/◌, ◌%◌, ◌^◌, ◌≤◌, ◌<◌}
 use mathlib.Core.Bool.{Bool, true, false, not, ◌||◌}
 use mathlib.Core.List.{List}
-use mathlib.Core.Path.{◌≡◌, sym, subst, ◌∙◌}
+use mathlib.Core.Path.{◌≡◌, refl, sym, subst, ◌∙◌}
 use native.Mathlib.Decide.{dec_lt}
 use native.Mathlib.Omega.{arith}
 use borrow.Author.Tests.{ltb-false, leb-false, lt-ltb, le-ltb, eqb-true, eqb-false, eq-eqb, ne_eqb, not-false}
 use lib.Bits.{bit_and}
 use lib.Dec.{eqb, leb, ltb}
 use lib.ListN.{length, get_or, get_or-eq_default}
+use Rattle.std.specs.List.{list_any}
 use Rattle.sheet.specs.Index.{some_below, table}
-use Rattle.sheet.proofs.IndexLaws.{none_at, found_some, and_both, or_neither, table_at, length_table}
+use Rattle.sheet.proofs.IndexLaws.{none_at, any_of, found_some, and_both, or_neither, table_at, length_table}
 use Rattle.sheet.specs.Record.{byte, four_at, sites_of, state_count, state_counts, mark_read, moves_of, moves_at, transition_at, transition_from, transition_in, transition_of, parts_by, parts_of, states_of, mark_in, move_of, no_transition, size_of, length_for}
 use Rattle.sheet.specs.Grounds.{misframed, outside, miscounted_at, miscounted, mismeasured_by, mismarked, misplaced, unranged, reads_nothing, shares, read_elsewhere, turns_from, undoes, some_move}
 use Rattle.sheet.proofs.GroundLaws.{Framed, Ordered, Passes}
-use Rattle.sheet.specs.Faults.{Sited}
 use Rattle.sheet.specs.Paths.{goes, has_arrow, Cycle}
 use Rattle.sheet.specs.Fine.{FineMove, Fine}
 use Rattle.sheet.specs.declared.Transition.{Transition}
@@ -185,13 +185,12 @@ module _ (l : List ℕ) (f : Framed l) where
       go (yes b) = (count_there i b).high
       go (no b) = omega (arith, count_absent i (omega arith))
 
--- without a fault of ground 25 each transition is of one of four sites
-pub sited : (s : Sheet) → s.sites ≤ 4 → some_move misplaced s ≡ false → Sited s
-sited s four e =
-    record {
-      least = λ i h. (placed s (move_of s i) (move_not misplaced s i e h)).least;
-      most = λ i h. omega (arith, (placed s (move_of s i) (move_not misplaced s i e h)).most);
-    }
+-- transitions without a fault of ground 25 are of four sites
+pub sited : (s : Sheet) (l : List Transition) → s.sites ≤ 4 → list_any (misplaced s) l ≡ false
+    → (k : ℕ) (d : Transition) → k < length l → (1 ≤ (get_or l k d).site) × ((get_or l k d).site ≤ 4)
+sited s l four e k d h =
+    let m = placed s (get_or l k d) (none_at _ (length l) k (sym (any_of (misplaced s) d l (length l) refl) ∙ e) h) in
+    (m.least, omega (arith, m.most))
 
 -- grounds 21 to 24 about the parts
 module _ (l : List ℕ) (p : Passes l) where

@@ -1,15 +1,22 @@
--- Laws of some_below, sum_below and table: what a search loop and a filling loop have at each turn and at their end.
+-- Laws of some_below, sum_below and table, and what they are to std's `list_any` and `sum_by`.
 -- Assumes nothing.
-use Prim.Native.Nat.{ℕ, zero, suc, ◌+◌, ◌≤◌, ◌<◌}
+use Prim.Native.Nat.{ℕ, zero, suc, ◌+◌, ◌-◌, ◌≤◌, ◌<◌}
 use mathlib.Core.Bool.{Bool, true, false, ◌&&◌, ◌||◌, false≢true, or-true, or-false}
 use mathlib.Core.List.{List, [], ◌∷◌, ◌++◌}
 use mathlib.Core.Path.{◌≡◌, refl, sym, ap, ap₂, ◌∙◌}
 use native.Mathlib.Decide.{ℕ_discrete, dec_lt}
-use native.Mathlib.Nat.{add-suc}
+use native.Mathlib.Nat.{add-suc, zero-add}
 use native.Mathlib.Numerals.{add-one}
 use native.Mathlib.Omega.{arith}
-use lib.ListN.{length, get_or, set, take, drop, length-set, length-append, drop_of_length-le, get_or-append}
-use lib.Seq.{get_or-set_same, get_or-set_other, get_or_at, ext_get_or, take_all, take-append-le, drop-append-le}
+use borrow.Author.Tests.{le-leb, lt-leb}
+use lib.Dec.{leb}
+use lib.ListN.{length, get_or, take, drop, length-append, length-drop, drop_of_length-le, get_or-append}
+use lib.Seq.{get_or_at, get_or-drop, get_or-take, length-take-le, ext_get_or, take_all, take-append-le, drop-append-le}
+use Rattle.std.specs.List.{list_any, sum_by, enumerate_from, range_with_len}
+use Rattle.std.proofs.lemmas.List.{get_or_past}
+use Rattle.std.proofs.lemmas.List.FromFn.{length-enumerate_from, get_or-enumerate_from, length-range_with_len, get_or-range_with_len}
+use Rattle.std.proofs.lemmas.List.Folds.{list_any_more}
+use Rattle.std.proofs.lemmas.List.Sums.{sum_by_more}
 use Rattle.sheet.specs.Index.{some_below, sum_below, table}
 
 or_left : (a b : Bool) → a ≡ true → (a || b) ≡ true
@@ -105,6 +112,63 @@ some_fewer f g n (suc m) h same none = go (some_fewer f g n m) (dec_lt m n)
         before (omega arith) same (λ k a b. none k a (omega arith))
         ∙ sym (ap (λ (b : Bool). some_below g m || b) (none m (omega arith) (omega arith)) ∙ or-false (some_below g m))
 
+-- a search that begins at m finds what one from the start finds that passes over the numbers before m
+some_from : (f : ℕ → Bool) (m n : ℕ) → some_below (λ (i : ℕ). f (m + i)) n ≡ some_below (λ (i : ℕ). leb m i && f i) (m + n)
+unfolding some_below
+some_from f m zero = sym (none_found (λ (i : ℕ). leb m i && f i) (m + 0) (λ k h. simp (lt-leb m k (omega arith))))
+some_from f m (suc n) =
+    ap₂ (λ (a b : Bool). a || b) (some_from f m n) (sym (simp (le-leb m (m + n) (omega arith))))
+    ∙ sym (ap (some_below (λ (i : ℕ). leb m i && f i)) (add-suc m n))
+
+-- some element of a list's first n passes a test exactly where the test at some place below n does
+pub any_take : {A : Type 0} (p : A → Bool) (d : A) (xs : List A) (n : ℕ) → n ≤ length xs → list_any p (take n xs) ≡ some_below (λ (i : ℕ). p (get_or xs i d)) n
+unfolding some_below
+any_take p d xs zero h = refl
+any_take p d xs (suc n) h =
+    ap (λ (k : ℕ). list_any p (take k xs)) (sym (add-one n))
+    ∙ list_any_more p xs n d (omega arith)
+    ∙ ap (λ (b : Bool). b || p (get_or xs n d)) (any_take p d xs n (omega arith))
+
+-- and of any n, where what is read past the end does not pass
+pub any_padded : {A : Type 0} (p : A → Bool) (d : A) (xs : List A) (n : ℕ) → p d ≡ false → list_any p (take n xs) ≡ some_below (λ (i : ℕ). p (get_or xs i d)) n
+unfolding some_below
+any_padded p d xs zero none = refl
+any_padded p d xs (suc n) none = go (any_padded p d xs n none) (dec_lt n (length xs))
+  where
+    go : list_any p (take n xs) ≡ some_below (λ (i : ℕ). p (get_or xs i d)) n → Dec (n < length xs)
+        → list_any p (take (suc n) xs) ≡ (some_below (λ (i : ℕ). p (get_or xs i d)) n || p (get_or xs n d))
+    go before (yes h) = any_take p d xs (suc n) (omega arith)
+    go before (no h) =
+        ap (list_any p) (take_all (suc n) xs (omega (arith, h)) ∙ sym (take_all n xs (omega (arith, h))))
+        ∙ before
+        ∙ sym (or-false _)
+        ∙ ap (λ (b : Bool). some_below (λ (i : ℕ). p (get_or xs i d)) n || b) (sym (ap p (get_or_past xs n d (omega (arith, h))) ∙ none))
+
+-- and of all, where there are n
+pub any_of : {A : Type 0} (p : A → Bool) (d : A) (xs : List A) (n : ℕ) → length xs ≡ n → list_any p xs ≡ some_below (λ (i : ℕ). p (get_or xs i d)) n
+any_of p d xs n e = ap (list_any p) (sym (take_all n xs (omega arith))) ∙ any_take p d xs n (omega arith)
+
+-- and of the numbers below n
+pub any_range : (p : ℕ → Bool) (n : ℕ) → list_any p (range_with_len 0 n) ≡ some_below p n
+any_range p n =
+    any_of p 0 (range_with_len 0 n) n (length-range_with_len 0 n)
+    ∙ some_same _ p n (λ k h. ap p (get_or-range_with_len 0 n k 0 h ∙ omega arith))
+
+-- of the elements from m on, up to the n that there are
+pub any_beyond : {A : Type 0} (p : A → Bool) (d : A) (xs : List A) (m n : ℕ) → length xs ≡ n → m ≤ n
+    → list_any p (take (n - m) (drop m xs)) ≡ some_below (λ (i : ℕ). leb m i && p (get_or xs i d)) n
+any_beyond p d xs m n e h =
+    any_take p d (drop m xs) (n - m) (omega (arith, length-drop m xs))
+    ∙ some_same _ _ (n - m) (λ k b. ap p (get_or-drop m xs k d))
+    ∙ some_from (λ (i : ℕ). p (get_or xs i d)) m (n - m)
+    ∙ ap (some_below (λ (i : ℕ). leb m i && p (get_or xs i d))) (let all : m + (n - m) ≡ n = omega arith in all)
+
+-- the same of a test that is given the place too
+pub any_placed : {A : Type 0} (p : ℕ × A → Bool) (d : A) (xs : List A) (n : ℕ) → length xs ≡ n → list_any p (enumerate_from 0 xs) ≡ some_below (λ (i : ℕ). p (i, get_or xs i d)) n
+any_placed p d xs n e =
+    any_of p (0, d) (enumerate_from 0 xs) n (length-enumerate_from 0 xs ∙ e)
+    ∙ some_same _ _ n (λ k b. ap p (get_or-enumerate_from 0 xs k (0, d) (omega (arith, e)) ∙ ap (λ (i : ℕ). (i, get_or xs k d)) (zero-add k)))
+
 pub sum_none : (f : ℕ → ℕ) → sum_below f 0 ≡ 0
 unfolding sum_below
 sum_none f = refl
@@ -122,6 +186,19 @@ sum_within f i (suc n) h = go (sum_within f i n) (ℕ_discrete i n)
 pub sum_more : (f : ℕ → ℕ) (n : ℕ) → sum_below f (n + 1) ≡ sum_below f n + f n
 unfolding sum_below
 sum_more f n = ap (sum_below f) (add-one n)
+
+-- what f gives of a list's first n elements, summed up
+sum_take : {A : Type 0} (f : A → ℕ) (d : A) (xs : List A) (n : ℕ) → n ≤ length xs → sum_by f (take n xs) ≡ sum_below (λ (i : ℕ). f (get_or xs i d)) n
+unfolding sum_below
+sum_take f d xs zero h = refl
+sum_take f d xs (suc n) h =
+    ap (λ (k : ℕ). sum_by f (take k xs)) (sym (add-one n))
+    ∙ sum_by_more f xs n d (omega arith)
+    ∙ ap (λ (k : ℕ). k + f (get_or xs n d)) (sum_take f d xs n (omega arith))
+
+-- and of all, where there are n
+pub sum_of : {A : Type 0} (f : A → ℕ) (d : A) (xs : List A) (n : ℕ) → length xs ≡ n → sum_by f xs ≡ sum_below (λ (i : ℕ). f (get_or xs i d)) n
+sum_of f d xs n e = ap (sum_by f) (sym (take_all n xs (omega arith))) ∙ sum_take f d xs n (omega arith)
 
 module _ {A : Type 0} where
   pub length_table : (f : ℕ → A) (n : ℕ) → length (table f n) ≡ n
@@ -168,34 +245,10 @@ module _ {A : Type 0} where
           let l : k < length (table f n) = omega (arith, length_table f n) in
           get_or-append (table f n) (f n ∷ []) d k l ∙ before (omega arith)
 
-  -- a list of m places, the first n of which hold what f gives
-  pub record Filled (f : ℕ → A) (d : A) (m n : ℕ) (l : List A) : Type 0 where
-    pub within : n ≤ m
-    pub long : length l ≡ m
-    pub at : (k : ℕ) → k < n → get_or l k d ≡ f k
-
-  pub filling_begins : (f : ℕ → A) (d : A) (m : ℕ) (l : List A) → length l ≡ m → Filled f d m 0 l
-  filling_begins f d m l e = record { within = omega arith; long = e; at = λ k h. absurd (omega arith) }
-
-  pub filling_goes_on : {f : ℕ → A} {d : A} {m n : ℕ} {l : List A} {v : A} → Filled f d m n l → n < m → v ≡ f n → Filled f d m (n + 1) (set l n v)
-  filling_goes_on {f} {d} {m} {n} {l} {v} r h e =
-      record { within = omega arith; long = length-set l n v ∙ r.long; at = λ k b. go k b (ℕ_discrete k n) }
-    where
-      go : (k : ℕ) → k < n + 1 → Dec (k ≡ n) → get_or (set l n v) k d ≡ f k
-      go k b (yes q) =
-          ap (λ (x : ℕ). get_or (set l n v) x d) q ∙ get_or-set_same l n v d (omega (arith, r.long)) ∙ e ∙ ap f (sym q)
-      go k b (no q) = get_or-set_other l n k v d q ∙ r.at k (omega arith)
-
-  -- where f gives d from n on, and the list holds it there, all places are filled
-  pub filling_rest : {f : ℕ → A} {d : A} {m n : ℕ} {l : List A} → Filled f d m n l → ((k : ℕ) → n ≤ k → k < m → get_or l k d ≡ d)
-      → ((k : ℕ) → n ≤ k → f k ≡ d) → Filled f d m m l
-  filling_rest {f} {d} {m} {n} {l} r rest none = record { within = omega arith; long = r.long; at = λ k b. go k b (dec_lt k n) }
-    where
-      go : (k : ℕ) → k < m → Dec (k < n) → get_or l k d ≡ f k
-      go k b (yes h) = r.at k h
-      go k b (no h) = rest k (omega arith) b ∙ sym (none k (omega arith))
-
-  pub filling_ends : {f : ℕ → A} {d : A} {m n : ℕ} {l : List A} → Filled f d m n l → m ≤ n → l ≡ table f m
-  filling_ends {f} {d} {m} {n} {l} r h =
-      ext_get_or d l (table f m) (r.long ∙ sym (length_table f m))
-      (λ k b. r.at k (omega (arith, r.long)) ∙ sym (table_at f m k d (omega (arith, r.long))))
+  -- n elements from a place on
+  pub part_table : (l : List A) (d : A) (at n : ℕ) → at + n ≤ length l → take n (drop at l) ≡ table (λ (k : ℕ). get_or l (at + k) d) n
+  part_table l d at n h =
+      let f : ℕ → A = λ k. get_or l (at + k) d in
+      let long : length (take n (drop at l)) ≡ n = length-take-le n (drop at l) (omega (arith, length-drop at l)) in
+      ext_get_or d (take n (drop at l)) (table f n) (long ∙ sym (length_table f n))
+      (λ k b. get_or-take n (drop at l) k d (omega (arith, long)) ∙ get_or-drop at l k d ∙ sym (table_at f n k d (omega (arith, long))))

@@ -8,7 +8,10 @@ pub mod CycleLaws
 -- What the proofs of the functions share, from the table of arrows to what the others of a site read.
 pub mod Arrows
 pub mod Faults
+pub mod Maps
 pub mod Marks
+pub mod Made
+pub mod Rows
 pub mod Readers
 -- What is written is read back, and what is read is written again.
 pub mod Pieces

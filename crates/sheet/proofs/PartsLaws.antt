@@ -1,13 +1,13 @@
 -- The parts as bytes: their pieces and their length; bytes put and read again are the same parts, and parts read and put again the same bytes.
 -- Assumes nothing.
-use Prim.Native.Nat.{ℕ, ◌+◌, ◌*◌, ◌%◌, ◌<◌}
-use mathlib.Core.List.{List, [], ◌∷◌, ◌++◌, flat_map, flatten, append-nil}
-use mathlib.Core.Path.{◌≡◌, sym, ap, ap₂, ◌∙◌}
+use Prim.Native.Nat.{ℕ, ◌+◌, ◌*◌, ◌%◌, ◌≤◌, ◌<◌}
+use mathlib.Core.List.{List, [], ◌∷◌, ◌++◌, flat_map, flatten, append_assoc, append-nil}
+use mathlib.Core.Path.{◌≡◌, sym, ap, ap₂, subst, ◌∙◌}
 use native.Mathlib.Omega.{arith}
 use borrow.Author.Tests.{eq-eqb, lt-ltb}
-use lib.ListN.{length, take, length-append}
-use lib.Seq.{take_all}
-use Rattle.text.proofs.TextLaws.{one_by_one}
+use lib.ListN.{length, length-append}
+use Rattle.text.proofs.TextLaws.{one_by_one, put_as}
+use Rattle.text.proofs.Putting.{Going, begin, ended, put_whole}
 use Rattle.sheet.specs.Index.{table}
 use Rattle.sheet.specs.Record.{byte, transition_from, transition_in, no_transition}
 use Rattle.sheet.specs.Write.{four_bytes, middle_bytes, transition_bytes}
@@ -19,24 +19,34 @@ use Rattle.sheet.proofs.Pieces.{At, at_whole, at_as, at_first, at_next, cut_then
 use Rattle.sheet.proofs.Elements.{byte_read, four_read, transition_read, bytes_back, four_again, transitions_again, bytes_again}
 use Rattle.sheet.proofs.WriteLaws.{transition_length, transitions_length}
 
--- the parts in three pieces
+-- the parts in pieces
 abbrev pub parts_pieces : Sheet → List (List ℕ)
 parts_pieces s =
-    ((s.sites ∷ s.counts) ++ s.marks)
+    (s.sites ∷ [])
+    ∷ s.counts
+    ∷ s.marks
     ∷ middle_bytes s.first (s.moves % 256)
-    ∷ flat_map transition_bytes (take 64 s.transitions)
+    ∷ flat_map transition_bytes s.transitions
     ∷ []
 
-module _ (s : Sheet) (shaped : Shaped s) where
-  pub parts_pieces_lem : flatten (parts_pieces s) ≡ parts_bytes s
-  unfolding flatten parts_bytes
-  parts_pieces_lem =
-      let all : take 64 s.transitions ≡ s.transitions = take_all 64 s.transitions (omega (arith, shaped.transitions)) in
-      simp (append-nil, all)
+-- together they are the parts' bytes, of any sheet
+pub parts_pieces_lem : (s : Sheet) → flatten (parts_pieces s) ≡ parts_bytes s
+unfolding flatten parts_bytes
+parts_pieces_lem s = simp (append_assoc, append-nil)
 
+module _ (s : Sheet) (shaped : Shaped s) where
   pub parts_length : length (parts_bytes s) ≡ parts_size
   unfolding parts_bytes middle_bytes four_bytes
   parts_length = simp (length-append, shaped.counts, shaped.marks, transitions_length, shaped.transitions)
+
+  -- in a room of as many bytes all pieces are left to put
+  pub parts_begun : (room : List ℕ) → length room ≡ parts_size → Going room 0 (flatten (parts_pieces s)) (parts_pieces s) room 0
+  parts_begun room h =
+      begin room 0 (parts_pieces s) (subst (λ (x : List ℕ). 0 + length x ≤ length room) (sym (parts_pieces_lem s)) (omega (arith, parts_length)))
+
+  -- all are put
+  pub parts_ended : {room last : List ℕ} {r : ℕ} → length room ≡ parts_size → Going room 0 (flatten (parts_pieces s)) [] last r → last ≡ parts_bytes s
+  parts_ended {room} h g = put_whole (put_as (ended g) (parts_pieces_lem s)) (parts_length ∙ sym h)
 
 -- ---- parts put are read again
 

@@ -1,9 +1,11 @@
 -- A transition reads a message of another site exactly where it reads one of those that the others read, put together.
 -- Assumes nothing.
-use Prim.Native.Nat.{ℕ, zero, suc, ◌+◌, ◌-◌, ◌*◌, ◌/◌, ◌%◌, ◌<◌, min, max}
+use Prim.Native.Nat.{ℕ, zero, suc, ◌+◌, ◌-◌, ◌≤◌, ◌*◌, ◌/◌, ◌%◌, ◌<◌, min, max}
 use native.Mathlib.Nat.{zero-min, min-zero, zero-max, max-zero, suc-min-suc, suc-max-suc}
-use mathlib.Core.Bool.{Bool, not, ◌||◌, or-false}
-use mathlib.Core.List.{List}
+use mathlib.Core.Bool.{Bool, false, not, ◌||◌, or-false, and-false}
+use Rattle.std.proofs.Math.Bool.{or_assoc}
+use Rattle.std.specs.List.{fold, filter, list_any}
+use mathlib.Core.List.{List, [], ◌∷◌}
 use mathlib.Core.Path.{◌≡◌, refl, sym, ap, ap₂, ◌∙◌}
 use native.Mathlib.Decide.{ℕ_discrete}
 use native.Mathlib.Omega.{arith}
@@ -11,12 +13,12 @@ use borrow.Author.Tests.{eq-eqb, ne_eqb}
 use lib.Arith.{bin_ind}
 use lib.Bits.{bit_and, bit_or, and_step, or_step, and_comm, and_le_r, or_add_and}
 use lib.Dec.{eqb}
-use lib.ListN.{get_or}
-use Rattle.sheet.specs.Index.{some_below, table}
-use Rattle.sheet.proofs.IndexLaws.{table_at}
-use Rattle.sheet.specs.Record.{move_of}
+use lib.ListN.{get_or, take}
+use Rattle.sheet.specs.Index.{table}
+use Rattle.sheet.proofs.IndexLaws.{table_at, any_padded}
+use Rattle.sheet.specs.Record.{no_transition}
 use Rattle.sheet.specs.Grounds.{shares, read_elsewhere}
-use Rattle.sheet.specs.Faults.{with_reads, read_without, read_beside}
+use Rattle.sheet.specs.Faults.{read_beside}
 use Rattle.sheet.specs.declared.Transition.{Transition}
 use Rattle.sheet.specs.declared.Sheet.{Sheet}
 
@@ -68,25 +70,44 @@ meets_or m a b =
     ap (λ (x : ℕ). not (eqb x 0)) (and_comm (bit_or a b) m ∙ and_or m a b ∙ ap₂ bit_or (and_comm m a) (and_comm m b))
     ∙ some_or (bit_and a m) (bit_and b m)
 
-module _ (s : Sheet) (t : Transition) where
-  -- of the first n transitions one of another site shares a message exactly where those that they read do
-  read_among : (n : ℕ) → meets (read_without t.site s n) t.reads ≡ some_below (λ (i : ℕ). shares t (move_of s i)) n
-  unfolding some_below read_without with_reads shares
-  read_among zero = refl
-  read_among (suc n) = go (read_among n) (ℕ_discrete (move_of s n).site t.site)
+-- where a sheet has no transition, none is shared
+shares_none : (t : Transition) → shares t no_transition ≡ false
+unfolding shares
+shares_none t = and-false (not (eqb 0 t.site))
+
+module _ (t : Transition) where
+  -- a set that takes in what transitions of other sites read meets a message that t reads where it did, or one of them shares it
+  read_among : (m : ℕ) (l : List Transition)
+      → meets (fold (λ (reads : ℕ) (u : Transition). bit_or reads u.reads) m (filter (λ (u : Transition). not (eqb u.site t.site)) l)) t.reads
+      ≡ (meets m t.reads || list_any (shares t) l)
+  unfolding shares
+  read_among m [] = sym (or-false (meets m t.reads))
+  read_among m (u ∷ l) = go (λ k. read_among k l) (ℕ_discrete u.site t.site)
     where
-      go : meets (read_without t.site s n) t.reads ≡ some_below (λ (i : ℕ). shares t (move_of s i)) n → Dec ((move_of s n).site ≡ t.site)
-          → meets (with_reads t.site (move_of s n) (read_without t.site s n)) t.reads ≡ (some_below (λ (i : ℕ). shares t (move_of s i)) n || shares t (move_of s n))
-      go before (yes e) = simp (eq-eqb _ _ e, or-false) before
+      rest : ℕ → ℕ
+      rest k = fold (λ (reads : ℕ) (v : Transition). bit_or reads v.reads) k (filter (λ (v : Transition). not (eqb v.site t.site)) l)
+
+      go : ((k : ℕ) → meets (rest k) t.reads ≡ (meets k t.reads || list_any (shares t) l)) → Dec (u.site ≡ t.site)
+          → meets (fold (λ (reads : ℕ) (v : Transition). bit_or reads v.reads) m (filter (λ (v : Transition). not (eqb v.site t.site)) (u ∷ l))) t.reads
+          ≡ (meets m t.reads || (shares t u || list_any (shares t) l))
+      go before (yes e) = simp (eq-eqb _ _ e) (before m)
       go before (no d) =
           simp (ne_eqb _ _ d)
-          (meets_or t.reads (read_without t.site s n) (move_of s n).reads ∙ ap (λ (x : Bool). x || meets (move_of s n).reads t.reads) before)
+          (before (bit_or m u.reads) ∙ ap (λ (x : Bool). x || list_any (shares t) l) (meets_or t.reads m u.reads) ∙ or_assoc (meets m t.reads) _ _)
 
   -- what the others of its site read, of four sites
-  pub read_elsewhere_lem : (l : List ℕ) → l ≡ table (read_beside s) 4 → t.site - 1 < 4 → t.site ≡ t.site - 1 + 1
-      → meets (get_or l (t.site - 1) 0) t.reads ≡ read_elsewhere s t
-  unfolding read_beside read_elsewhere
-  read_elsewhere_lem l e h one =
+  pub shared : (moves : List Transition) (l : List ℕ) → l ≡ table (λ (p : ℕ). read_beside (p + 1) moves) 4 → 1 ≤ t.site → t.site ≤ 4
+      → meets (get_or l (t.site - 1) 0) t.reads ≡ list_any (shares t) moves
+  shared moves l e least most =
       ap (λ (x : ℕ). meets x t.reads)
-      (ap (λ (x : List ℕ). get_or x (t.site - 1) 0) e ∙ table_at (read_beside s) 4 (t.site - 1) 0 h ∙ ap (λ (x : ℕ). read_without x s s.moves) (sym one))
-      ∙ read_among s.moves
+      (ap (λ (x : List ℕ). get_or x (t.site - 1) 0) e ∙ table_at _ 4 (t.site - 1) 0 (omega arith) ∙ ap (λ (x : ℕ). read_beside x moves) (omega arith))
+      ∙ read_among 0 moves
+
+module _ (s : Sheet) (t : Transition) where
+  -- what the others of its site read of a sheet's transitions, of four sites
+  pub read_elsewhere_lem : (l : List ℕ) → l ≡ table (λ (p : ℕ). read_beside (p + 1) (take s.moves s.transitions)) 4 → t.site - 1 < 4 → t.site ≡ t.site - 1 + 1
+      → meets (get_or l (t.site - 1) 0) t.reads ≡ read_elsewhere s t
+  unfolding read_elsewhere
+  read_elsewhere_lem l e h one =
+      shared t (take s.moves s.transitions) l e (omega (arith, one)) (omega (arith, h, one))
+      ∙ any_padded (shares t) no_transition s.transitions s.moves (shares_none t)

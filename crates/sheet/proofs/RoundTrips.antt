@@ -2,17 +2,23 @@
 -- The record of the parts that the reader found is the bytes that it read, piece by piece.
 -- Assumes nothing.
 use Prim.Native.Nat.{ℕ, ◌+◌, ◌-◌, ◌*◌, ◌/◌, ◌%◌, ◌≤◌, ◌<◌}
-use mathlib.Core.Bool.{cond}
+use mathlib.Core.Bool.{Bool, true, false, cond, false≢true}
 use mathlib.Core.List.{List, [], ◌∷◌, ◌++◌, flat_map, flatten, append-nil}
 use mathlib.Core.Path.{◌≡◌, refl, sym, ap, ap₂, subst, ◌∙◌}
 use native.Mathlib.Decide.{ℕ_discrete, dec_lt}
 use native.Mathlib.Nat.{zero-add}
 use native.Mathlib.Omega.{arith}
 use borrow.Author.Tests.{eqb-true, eq-eqb, ne_eqb, not-false, lt-ltb}
-use lib.Dec.{eqb, leb}
+use lib.Dec.{leb}
 use lib.ListN.{length, get_or, take, drop}
 use lib.Seq.{take_at}
 use Rattle.text.proofs.TextLaws.{one_by_one}
+use Rattle.std.specs.Prelude.{Result, Ok, Err}
+use Rattle.std.specs.Option.{unwrap_or}
+use Rattle.std.specs.Result.{result_ok, is_ok, IsOk}
+use Rattle.refusal.specs.declared.Refusal.{Refusal}
+use Rattle.refusal.specs.declared.Refusal.TheVariants.{SheetCounts, SheetNoRoom}
+use Rattle.refusal.specs.Refusals.{Test, clear, checked}
 use Rattle.sheet.specs.Index.{table}
 use Rattle.sheet.specs.Record.{byte, size_of, sites_of, state_count, state_counts, states_before, first_at, moves_at, mark_read, moves_of, transition_from, transition_in, transition_of, parts_by, parts_of, no_sheet}
 use Rattle.sheet.specs.Grounds.{outside, misversioned, sheet_ground, sheet_of}
@@ -21,14 +27,13 @@ use Rattle.sheet.specs.Parts.{parts_size, parts_in, parts_from}
 use Rattle.sheet.specs.RoundTrip.{Shaped, record_written, RoundTrip}
 use Rattle.sheet.specs.Fine.{Blank}
 use Rattle.sheet.specs.declared.Sheet.{Sheet}
-use Rattle.sheet.specs.declared.Written.{Written}
 use Rattle.sheet.proofs.IndexLaws.{length_table, table_same, table_take, table_drop, sum_within}
 use Rattle.sheet.proofs.GroundLaws.{Framed, frame_none, passes, sheet_is}
 use Rattle.sheet.proofs.FineLaws.{framed_size, whole, sites_few, count_few, moves_few}
 use Rattle.sheet.proofs.CycleLaws.{accepted_fine}
 use Rattle.sheet.proofs.Pieces.{cut_at, cut_then, cut_whole, flat_cut}
 use Rattle.sheet.proofs.Elements.{cut_four, four_again, transitions_again, bytes_again}
-use Rattle.sheet.proofs.WriteLaws.{formed, blank, sized, pieces_are, record_length, refusal_is, refused_parts, refused_room, written}
+use Rattle.sheet.proofs.WriteLaws.{formed, blank, sized, pieces_are, record_length, refused_parts, refused_room, written}
 use Rattle.sheet.proofs.ReadBack.{record_long, same_ground, parts_read}
 
 -- ---- the parts of a record
@@ -38,9 +43,9 @@ unfolding parts_by state_counts
 shaped_parts l = record { counts = length_table _ 4; marks = length_table _ 32; transitions = length_table _ 64 }
 
 -- the sheet of an accepted record has its shape, and few transitions
-module _ (l : List ℕ) (accepted : sheet_ground l ≡ 0) where
+module _ (l : List ℕ) (accepted : sheet_ground l ≡ clear) where
   accepted_frame : Framed l
-  accepted_frame = (passes 0 (λ n a b z. absurd (omega arith)) l accepted).frame
+  accepted_frame = (passes clear (λ n a b z. absurd (omega arith)) l accepted).frame
 
   accepted_sheet : sheet_of l ≡ parts_of l
   accepted_sheet = sheet_is l (frame_none accepted_frame)
@@ -147,50 +152,53 @@ module _ (l : List ℕ) (f : Framed l) where
 
 -- ---- the calls
 
-module _ (l : List ℕ) (small : (k : ℕ) → byte l k < 256) (accepted : sheet_ground l ≡ 0) where
+module _ (l : List ℕ) (small : (k : ℕ) → byte l k < 256) (accepted : sheet_ground l ≡ clear) where
   same_record : record_of (sheet_of l) ≡ l
   same_record = ap record_of (accepted_sheet l accepted) ∙ record_again l (accepted_frame l accepted) small
 
-  no_ground : write_ground (sheet_of l) ≡ 0
+  no_ground : write_ground (sheet_of l) ≡ clear
   no_ground =
       ap write_ground (accepted_sheet l accepted)
       ∙ sym (same_ground (parts_of l) (shaped_parts l) (accepted_fine l small accepted).blank)
       ∙ ap sheet_ground (record_again l (accepted_frame l accepted) small)
       ∙ accepted
 
-  again : (room : List ℕ) → length l ≤ length room
-      → write_of (sheet_of l) room ≡ (record { refusal = 0; length = length l }, l ++ drop (length l) room)
+  again : (room : List ℕ) → length l ≤ length room → write_of (sheet_of l) room ≡ (Ok (length l), l ++ drop (length l) room)
   again room h =
       written (sheet_of l) room no_ground (omega (arith, ap length same_record))
-      ∙ ap (λ (x : List ℕ). (record { refusal = 0; length = length x }, x ++ drop (length x) room)) same_record
+      ∙ ap (λ (x : List ℕ). (Ok (length x), x ++ drop (length x) room)) same_record
 
-  cramped : (room : List ℕ) → length room < length l → write_of (sheet_of l) room ≡ (record { refusal = 32; length = 0 }, room)
+  cramped : (room : List ℕ) → length room < length l → write_of (sheet_of l) room ≡ (Err SheetNoRoom, room)
   cramped room h = refused_room (sheet_of l) room no_ground (omega (arith, ap length same_record))
 
 -- what the writer did not refuse had no ground and room enough
 record Wrote (s : Sheet) (room : List ℕ) : Type 0 where
-  pub unrefused : write_ground s ≡ 0
+  pub unrefused : write_ground s ≡ clear
   pub fits : length (record_of s) ≤ length room
 
-wrote : (s : Sheet) (room : List ℕ) → (write_of s room).0.refusal ≡ 0 → Wrote s room
-wrote s room e = go (ℕ_discrete (write_ground s) 0) (dec_lt (length room) (length (record_of s)))
-  where
-    go : Dec (write_ground s ≡ 0) → Dec (length room < length (record_of s)) → Wrote s room
-    go (no d) b = absurd (d (sym (ap (λ (w : Written × List ℕ). w.0.refusal) (refused_parts s room d)) ∙ e))
-    go (yes z) (yes b) = absurd (let none : 32 ≡ 0 = sym (ap (λ (w : Written × List ℕ). w.0.refusal) (refused_room s room z b)) ∙ e in omega (arith, none))
-    go (yes z) (no b) = record { unrefused = z; fits = omega arith }
+-- a refusal is no answer that all is well
+refused_not : {w : Result ℕ Refusal × List ℕ} {why : Refusal} {room : List ℕ} → w ≡ (Err why, room) → IsOk w.0 → ⊥
+refused_not {why = why} q e = false≢true (sym (ap (λ (v : Result ℕ Refusal × List ℕ). is_ok v.0) q) ∙ e)
 
-module _ (s : Sheet) (room : List ℕ) (shaped : Shaped s) (e : (write_of s room).0.refusal ≡ 0) where
+wrote : (s : Sheet) (room : List ℕ) → IsOk (write_of s room).0 → Wrote s room
+wrote s room e = go (write_ground s) refl (dec_lt (length room) (length (record_of s)))
+  where
+    go : (t : Test) → write_ground s ≡ t → Dec (length room < length (record_of s)) → Wrote s room
+    go (Err why) q b = absurd (refused_not (refused_parts s room q) e)
+    go (Ok u) q (yes b) = absurd (refused_not (refused_room s room q b) e)
+    go (Ok u) q (no b) = record { unrefused = q; fits = omega arith }
+
+module _ (s : Sheet) (room : List ℕ) (shaped : Shaped s) (e : IsOk (write_of s room).0) where
   zeros : Blank s
   zeros = blank s shaped (formed s (wrote s room e).unrefused)
 
   left : record_written s room ≡ record_of s
   left =
       let w = wrote s room e in
-      ap (λ (x : Written × List ℕ). take x.0.length x.1) (written s room w.unrefused w.fits)
+      ap (λ (x : Result ℕ Refusal × List ℕ). take (unwrap_or (result_ok x.0) 0) x.1) (written s room w.unrefused w.fits)
       ∙ take_at (record_of s) (drop (length (record_of s)) room) (length (record_of s)) refl
 
-  accepts : sheet_ground (record_of s) ≡ 0
+  accepts : sheet_ground (record_of s) ≡ clear
   accepts = same_ground s shaped zeros ∙ (wrote s room e).unrefused
 
   read : sheet_of (record_of s) ≡ s
@@ -211,22 +219,30 @@ told_shape l = go (ℕ_discrete (length l) parts_size)
     go (no d) = simp (ne_eqb (length l) parts_size d) (record { counts = refl; marks = refl; transitions = refl })
 
 -- the writer refuses parts that are all zero
-pub untold : (room : List ℕ) → (write_of no_sheet room).0.refusal ≡ 0 → ⊥
+pub untold : (room : List ℕ) → IsOk (write_of no_sheet room).0 → ⊥
 unfolding write_ground wrong_counts outside no_sheet
-untold room e = let none : ◌≡◌ {A = ℕ} 23 0 = (wrote no_sheet room e).unrefused in omega (arith, none)
+untold room e = let none : Err SheetCounts ≡ clear = (wrote no_sheet room e).unrefused in cc
 
 -- the length that a record written says is its own
-pub record_size : (s : Sheet) (room : List ℕ) → (write_of s room).0.refusal ≡ 0 → 2 + size_of (write_of s room).1 ≡ (write_of s room).0.length
+pub record_size : (s : Sheet) (room : List ℕ) → IsOk (write_of s room).0 → 2 + size_of (write_of s room).1 ≡ unwrap_or (result_ok (write_of s room).0) 0
 unfolding record_of
 record_size s room e =
     let w = wrote s room e in
     let is = written s room w.unrefused w.fits in
-    ap (λ (x : Written × List ℕ). 2 + size_of x.1) is ∙ (let long : 2 + (length (body_of s) / 256 * 256 + length (body_of s) % 256) ≡ length (record_of s) = omega arith in long) ∙ sym (ap (λ (x : Written × List ℕ). x.0.length) is)
+    ap (λ (x : Result ℕ Refusal × List ℕ). 2 + size_of x.1) is
+    ∙ (let long : 2 + (length (body_of s) / 256 * 256 + length (body_of s) % 256) ≡ length (record_of s) = omega arith in long)
+    ∙ sym (ap (λ (x : Result ℕ Refusal × List ℕ). unwrap_or (result_ok x.0) 0) is)
 
+-- the grounds against the parts come first, then the room
 refusal_by_ground : (s : Sheet) (room : List ℕ)
-    → (write_of s room).0.refusal ≡ cond (eqb (write_ground s) 0) (cond (leb (length (record_of s)) (length room)) 0 32) (write_ground s)
-unfolding refusal_for
-refusal_by_ground s room = refusal_is s room
+    → (write_of s room).0 ≡ checked (write_ground s) (cond (leb (length (record_of s)) (length room)) (Ok (length (record_of s))) (Err SheetNoRoom))
+unfolding write_of refusal_for
+refusal_by_ground s room = go (write_ground s) (leb (length (record_of s)) (length room))
+  where
+    go : (t : Test) (b : Bool) → checked (checked t (cond b clear (Err SheetNoRoom))) (Ok (length (record_of s))) ≡ checked t (cond b (Ok (length (record_of s))) (Err SheetNoRoom))
+    go (Err why) b = refl
+    go (Ok u) true = refl
+    go (Ok u) false = refl
 
 pub round_trip : RoundTrip
 round_trip =
@@ -239,6 +255,8 @@ round_trip =
     }
   where
     same_refusal : (s : Sheet) (room : List ℕ) → Shaped s → Blank s
-        → (write_of s room).0.refusal
-        ≡ cond (eqb (sheet_ground (record_of s)) 0) (cond (leb (length (record_of s)) (length room)) 0 32) (sheet_ground (record_of s))
-    same_refusal s room shaped none = refusal_by_ground s room ∙ sym (ap (λ (g : ℕ). cond (eqb g 0) (cond (leb (length (record_of s)) (length room)) 0 32) g) (same_ground s shaped none))
+        → (write_of s room).0
+        ≡ checked (sheet_ground (record_of s)) (cond (leb (length (record_of s)) (length room)) (Ok (length (record_of s))) (Err SheetNoRoom))
+    same_refusal s room shaped none =
+        refusal_by_ground s room
+        ∙ sym (ap (λ (g : Test). checked g (cond (leb (length (record_of s)) (length room)) (Ok (length (record_of s))) (Err SheetNoRoom))) (same_ground s shaped none))

@@ -1,18 +1,27 @@
 -- What the writer's grounds say of parts that pass them, and how long the pieces of their record are.
 -- Assumes nothing.
-use Prim.Native.Nat.{ℕ, ◌+◌, ◌-◌, ◌*◌, ◌/◌, ◌%◌, ◌≤◌, ◌<◌}
+use Prim.Native.Nat.{ℕ, ◌+◌, ◌-◌, ◌*◌, ◌/◌, ◌%◌, ◌^◌, ◌≤◌, ◌<◌}
 use mathlib.Core.Bool.{false, not}
-use mathlib.Core.List.{List, [], ◌∷◌, ◌++◌, flat_map, flatten, append-nil}
+use mathlib.Core.List.{List, [], ◌∷◌, ◌++◌, map, flat_map, flatten, append-nil}
 use mathlib.Core.Path.{◌≡◌, refl, sym, ap, subst, ◌∙◌}
-use native.Mathlib.Decide.{dec_lt, ℕ_discrete}
+use native.Mathlib.Decide.{dec_lt}
 use native.Mathlib.Omega.{arith}
-use borrow.Author.Tests.{eq-eqb, ne_eqb, eqb-true, lt-ltb, le-ltb, ltb-false, le-leb, lt-leb, not-false}
+use borrow.Author.Tests.{eqb-true, lt-ltb, le-ltb, ltb-false, le-leb, lt-leb, not-false}
 use lib.Dec.{eqb, ltb}
-use lib.ListN.{length, get_or, take, drop, length-append, length-drop, get_or-eq_default}
+use lib.ListN.{length, get_or, take, drop, length-append, length-drop, length-map, get_or-eq_default}
 use lib.Seq.{length-take-le}
-use Rattle.text.specs.Text.{Put}
+use Rattle.std.specs.Int.{w16, w32, to_be_bytes}
+use Rattle.std.specs.List.{flat_map as joined}
+use Rattle.std.proofs.lemmas.List.{take-map}
+use Rattle.text.specs.declared.Page.{Page}
+use Rattle.text.specs.Text.{Put, end_of, spliced}
+use Rattle.text.specs.Page.{Offered}
 use Rattle.text.proofs.TextLaws.{put_as}
-use Rattle.text.proofs.Putting.{Going, begin, next, ended, flat_length}
+use Rattle.text.proofs.Putting.{Going, begin, next, next_by, ended, rows_joined, flat_length}
+use Rattle.std.specs.Prelude.{Ok, Err}
+use Rattle.refusal.specs.declared.Refusal.{Refusal}
+use Rattle.refusal.specs.declared.Refusal.TheVariants.{SheetCounts, SheetLength, SheetRange, SheetNoRoom}
+use Rattle.refusal.specs.Refusals.{clear}
 use Rattle.sheet.specs.Index.{sum_below}
 use Rattle.sheet.specs.Record.{states_before, length_for, move_of, no_transition}
 use Rattle.sheet.specs.Grounds.{outside, parts_ground}
@@ -33,14 +42,14 @@ pub record Formed (s : Sheet) : Type 0 where
   pub counted : wrong_counts s ≡ false
   pub moved : wrong_moves s ≡ false
   pub marked : stray_marks s ≡ false
-  pub parts : parts_ground s ≡ 0
+  pub parts : parts_ground s ≡ clear
 
-pub formed : (s : Sheet) → write_ground s ≡ 0 → Formed s
+pub formed : (s : Sheet) → write_ground s ≡ clear → Formed s
 unfolding write_ground
 formed s e =
-    let a = past (wrong_counts s) 23 _ 0 (λ z. absurd (omega arith)) e in
-    let b = past (wrong_moves s) 24 _ 0 (λ z. absurd (omega arith)) a.rest in
-    let c = past (stray_marks s) 25 (parts_ground s) 0 (λ z. absurd (omega arith)) b.rest in
+    let a = past (wrong_counts s) SheetCounts _ clear (λ z. absurd (omega arith)) e in
+    let b = past (wrong_moves s) SheetLength _ clear (λ z. absurd (omega arith)) a.rest in
+    let c = past (stray_marks s) SheetRange (parts_ground s) clear (λ z. absurd (omega arith)) b.rest in
     record { counted = a.absent; moved = b.absent; marked = c.absent; parts = c.rest }
 
 -- what is not other than 0 is 0
@@ -128,6 +137,15 @@ module _ (s : Sheet) (shaped : Shaped s) (f : Formed s) where
       move k h (yes b) = move_zero k b h
       move k h (no b) = get_or-eq_default s.transitions no_transition {n = k} (omega (arith, shaped.transitions))
 
+-- ---- numbers as bytes, big-endian
+
+pub two_are : (n : ℕ) → n < 2 ^ 16 → to_be_bytes w16 n ≡ n / 256 ∷ n % 256 ∷ []
+two_are n h = ap (λ (b : ℕ). b ∷ n % 256 ∷ []) (omega (arith, h))
+
+pub four_are : (x : ℕ) → x < 2 ^ 32 → to_be_bytes w32 x ≡ four_bytes x
+unfolding four_bytes
+four_are x h = ap (λ (b : ℕ). b ∷ x / 65536 % 256 ∷ x / 256 % 256 ∷ x % 256 ∷ []) (omega (arith, h))
+
 -- ---- lengths
 
 pub transition_length : (t : Transition) → length (transition_bytes t) ≡ 12
@@ -136,6 +154,18 @@ transition_length t = refl
 
 pub transitions_length : (l : List Transition) → length (flat_map transition_bytes l) ≡ 12 * length l
 transitions_length = flat_length transition_bytes 12 transition_length
+
+-- the rows of the first m transitions, laid out in one list
+pub rows_are : (l : List Transition) (m : ℕ) → joined (λ (x : List ℕ). x) (take m (map transition_bytes l)) ≡ flat_map transition_bytes (take m l)
+rows_are l m = ap (joined (λ (x : List ℕ). x)) (take-map transition_bytes m l) ∙ rows_joined transition_bytes (take m l)
+
+pub rows_length : (l : List Transition) {rows : List (List ℕ)} → rows ≡ map transition_bytes l → length l ≡ 64 → length rows ≡ 64
+rows_length l is e = ap length is ∙ length-map l transition_bytes ∙ e
+
+-- the next piece is offered to the page that it fits on
+pub offered : {text x : List ℕ} {at : ℕ} {piece part : List ℕ} {ps : List (List ℕ)} {p q : Page} → Going text at x (piece ∷ ps) p.text.now p.at → part ≡ piece → Offered p part q
+    → Going text at x ps q.text.now q.at
+offered {p = p} {q = q} g e o = next_by g (subst (λ (l : List ℕ). (q.at ≡ end_of p.text.now p.at l) × (q.text.now ≡ spliced p.text.now p.at l)) e (o.at, o.bytes))
 
 module _ (counts marks : List ℕ) (few : (i : ℕ) → get_or counts i 0 ≤ 8) (all : length marks ≡ 32) where
   pub site_length : (i : ℕ) → i < 4 → length (site_marks counts marks i) ≡ get_or counts i 0
@@ -184,7 +214,7 @@ pub record Sized (s : Sheet) : Type 0 where
   pub states : states_before s.counts 4 ≤ 32
   pub long : length (record_of s) ≡ 2 + length_for s.sites s.counts s.moves
 
-pub sized : (s : Sheet) → Shaped s → write_ground s ≡ 0 → Sized s
+pub sized : (s : Sheet) → Shaped s → write_ground s ≡ clear → Sized s
 sized s shaped e =
     let f = formed s e in
     let four = (sites_among s f.counted).high in
@@ -208,26 +238,18 @@ pieces_are s = simp append-nil
 -- ---- the answer
 
 module _ (s : Sheet) (room : List ℕ) where
-  pub refused_parts : (write_ground s ≡ 0 → ⊥) → write_of s room ≡ (record { refusal = write_ground s; length = 0 }, room)
+  pub refused_parts : {why : Refusal} → write_ground s ≡ Err why → write_of s room ≡ (Err why, room)
   unfolding write_of refusal_for
-  refused_parts d = simp (ne_eqb (write_ground s) 0 d)
+  refused_parts e = rw e refl
 
-  pub refusal_is : (write_of s room).0.refusal ≡ refusal_for s (length room)
-  unfolding write_of
-  refusal_is = go (ℕ_discrete (refusal_for s (length room)) 0)
-    where
-      go : Dec (refusal_for s (length room) ≡ 0) → (write_of s room).0.refusal ≡ refusal_for s (length room)
-      go (yes e) = simp (eq-eqb (refusal_for s (length room)) 0 e) (sym e)
-      go (no d) = simp (ne_eqb (refusal_for s (length room)) 0 d)
-
-  pub refused_room : write_ground s ≡ 0 → length room < length (record_of s) → write_of s room ≡ (record { refusal = 32; length = 0 }, room)
+  pub refused_room : write_ground s ≡ clear → length room < length (record_of s) → write_of s room ≡ (Err SheetNoRoom, room)
   unfolding write_of refusal_for
-  refused_room e h = simp (eq-eqb (write_ground s) 0 e, lt-leb (length (record_of s)) (length room) h)
+  refused_room e h = rw e (simp (lt-leb (length (record_of s)) (length room) h))
 
-  pub written : write_ground s ≡ 0 → length (record_of s) ≤ length room
-      → write_of s room ≡ (record { refusal = 0; length = length (record_of s) }, record_of s ++ drop (length (record_of s)) room)
+  pub written : write_ground s ≡ clear → length (record_of s) ≤ length room
+      → write_of s room ≡ (Ok (length (record_of s)), record_of s ++ drop (length (record_of s)) room)
   unfolding write_of refusal_for
-  written e h = simp (eq-eqb (write_ground s) 0 e, le-leb (length (record_of s)) (length room) h)
+  written e h = rw e (simp (le-leb (length (record_of s)) (length room) h))
 
 -- ---- the record, put piece by piece
 

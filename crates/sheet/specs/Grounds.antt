@@ -1,9 +1,13 @@
 -- Grounds 21 to 29 (01, "Grounds for refusal"), and what the reader answers: the first ground that holds, and the sheet.
+-- What a number stands for, crates/refusal says.
 -- Grounds 21 to 24 are about the bytes, 25 to 29 about the parts. Each is tested over the whole sheet before the next.
 -- The last, 29, is in specs/Paths.antt: `cyclic`.
 -- Assumes nothing.
-use Rattle.std.specs.Prelude.{ℕ, ◌+◌, Bool, cond, not, ◌&&◌, ◌||◌, List, eqb, leb, ltb, length, get_or}
+use Rattle.std.specs.Prelude.{ℕ, ◌+◌, Bool, cond, not, ◌&&◌, ◌||◌, List, eqb, leb, ltb, length, get_or, Err}
+use Rattle.std.specs.Result.{is_ok}
 use Rattle.std.specs.Int.Bits.{bit_and}
+use Rattle.refusal.specs.declared.Refusal.TheVariants.{SheetSize, SheetVersion, SheetCounts, SheetLength, SheetRange, ReadsNothing, ReadTwice, NotFinal, Cycle}
+use Rattle.refusal.specs.Refusals.{Test, clear, checked}
 use Rattle.sheet.specs.Index.{some_below}
 use Rattle.sheet.specs.Record.{byte, size_of, sites_of, state_counts, moves_at, length_for, moves_of, parts_of, no_sheet, states_of, mark_in, move_of}
 use Rattle.sheet.specs.Paths.{cyclic}
@@ -101,21 +105,22 @@ undone s = some_move undoes s
 
 -- The answer.
 
--- the first of grounds 21 to 24, 0 for none
-unfoldable pub frame_ground : List ℕ → ℕ
+-- the first of grounds 21 to 24, clear where none holds
+unfoldable pub frame_ground : List ℕ → Test
 frame_ground l =
-    cond (misframed l) 21 (cond (misversioned l) 22 (cond (miscounted l) 23 (cond (mismeasured l) 24 0)))
+    cond (misframed l) (Err SheetSize)
+    (cond (misversioned l) (Err SheetVersion) (cond (miscounted l) (Err SheetCounts) (cond (mismeasured l) (Err SheetLength) clear)))
 
--- the first of grounds 25 to 29, 0 for none
-unfoldable pub parts_ground : Sheet → ℕ
+-- the first of grounds 25 to 29, clear where none holds
+unfoldable pub parts_ground : Sheet → Test
 parts_ground s =
-    cond (unranged s) 25
-    (cond (unprompted s) 26 (cond (contended s) 27 (cond (undone s) 28 (cond (cyclic s) 29 0))))
+    cond (unranged s) (Err SheetRange)
+    (cond (unprompted s) (Err ReadsNothing) (cond (contended s) (Err ReadTwice) (cond (undone s) (Err NotFinal) (cond (cyclic s) (Err Cycle) clear))))
 
--- the first ground that holds, 0 for none
-unfoldable pub sheet_ground : List ℕ → ℕ
-sheet_ground l = cond (eqb (frame_ground l) 0) (parts_ground (parts_of l)) (frame_ground l)
+-- the first ground that holds, clear where none does
+unfoldable pub sheet_ground : List ℕ → Test
+sheet_ground l = checked (frame_ground l) (parts_ground (parts_of l))
 
 -- the sheet of a record: its parts, none where a ground from 21 to 24 stands against it
 unfoldable pub sheet_of : List ℕ → Sheet
-sheet_of l = cond (eqb (frame_ground l) 0) (parts_of l) no_sheet
+sheet_of l = cond (is_ok (frame_ground l)) (parts_of l) no_sheet

@@ -1,7 +1,11 @@
 -- What reading and writing are to each other (02, Ask 3), said of what the calls answer and leave in the room: `RoundTrip`.
 -- proofs/RoundTrips.antt shows it.
 -- Assumes nothing.
-use Rattle.std.specs.Prelude.{ℕ, ◌≤◌, ◌<◌, cond, List, ◌++◌, ◌≡◌, eqb, leb, length, take, drop}
+use Rattle.std.specs.Prelude.{ℕ, ◌≤◌, ◌<◌, cond, List, ◌++◌, ◌≡◌, leb, length, take, drop, Ok, Err}
+use Rattle.std.specs.Option.{unwrap_or}
+use Rattle.std.specs.Result.{result_ok, IsOk}
+use Rattle.refusal.specs.declared.Refusal.TheVariants.{SheetNoRoom}
+use Rattle.refusal.specs.Refusals.{clear, checked}
 use Rattle.sheet.specs.Record.{byte}
 use Rattle.sheet.specs.Grounds.{sheet_ground, sheet_of}
 use Rattle.sheet.specs.Fine.{Blank}
@@ -16,21 +20,21 @@ pub record Shaped (s : Sheet) : Type 0 where
 
 -- what the writer left at the front of the room
 abbrev pub record_written : Sheet → List ℕ → List ℕ
-record_written s room = take (write_of s room).0.length (write_of s room).1
+record_written s room = take (unwrap_or (result_ok (write_of s room).0) 0) (write_of s room).1
 
 pub record RoundTrip : Type 0 where
   -- every sheet that the reader accepts is written with the same bytes
-  pub again : (l room : List ℕ) → ((k : ℕ) → byte l k < 256) → sheet_ground l ≡ 0 → length l ≤ length room
-      → write_of (sheet_of l) room ≡ (record { refusal = 0; length = length l }, l ++ drop (length l) room)
+  pub again : (l room : List ℕ) → ((k : ℕ) → byte l k < 256) → sheet_ground l ≡ clear → length l ≤ length room
+      → write_of (sheet_of l) room ≡ (Ok (length l), l ++ drop (length l) room)
   -- or refused with 32, where the room is smaller
-  pub cramped : (l room : List ℕ) → ((k : ℕ) → byte l k < 256) → sheet_ground l ≡ 0 → length room < length l
-      → write_of (sheet_of l) room ≡ (record { refusal = 32; length = 0 }, room)
+  pub cramped : (l room : List ℕ) → ((k : ℕ) → byte l k < 256) → sheet_ground l ≡ clear → length room < length l
+      → write_of (sheet_of l) room ≡ (Err SheetNoRoom, room)
   -- every sheet written is accepted by the reader, with the same parts
-  pub back : (s : Sheet) (room : List ℕ) → Shaped s → (write_of s room).0.refusal ≡ 0
-      → (sheet_ground (record_written s room) ≡ 0) × (sheet_of (record_written s room) ≡ s)
+  pub back : (s : Sheet) (room : List ℕ) → Shaped s → IsOk (write_of s room).0
+      → (sheet_ground (record_written s room) ≡ clear) × (sheet_of (record_written s room) ≡ s)
   -- nothing is written of parts that have something where a sheet has nothing; which of 23, 24 and 25 they get, `write_ground` says
-  pub blank : (s : Sheet) (room : List ℕ) → Shaped s → (write_of s room).0.refusal ≡ 0 → Blank s
+  pub blank : (s : Sheet) (room : List ℕ) → Shaped s → IsOk (write_of s room).0 → Blank s
   -- all others get exactly what the reader gives to the record of the parts, and only after that 32
   pub same : (s : Sheet) (room : List ℕ) → Shaped s → Blank s
-      → (write_of s room).0.refusal
-      ≡ cond (eqb (sheet_ground (record_of s)) 0) (cond (leb (length (record_of s)) (length room)) 0 32) (sheet_ground (record_of s))
+      → (write_of s room).0
+      ≡ checked (sheet_ground (record_of s)) (cond (leb (length (record_of s)) (length room)) (Ok (length (record_of s))) (Err SheetNoRoom))

@@ -1,14 +1,17 @@
 -- Writing a sheet (02, Ask 3): the record of its parts, the grounds against them, and what the writer answers and leaves in the room.
 -- Grounds 25 to 29 are the reader's own. 23 and 24 are said of the parts here; with 23, 24 and 25 goes what stands where a sheet has nothing.
 -- Assumes nothing.
-use Rattle.std.specs.Prelude.{ℕ, ◌+◌, ◌*◌, ◌/◌, ◌%◌, Bool, cond, not, ◌&&◌, ◌||◌, eqb, leb, ltb, length, get_or, take, drop}
+use Rattle.std.specs.Prelude.{ℕ, ◌+◌, ◌*◌, ◌/◌, ◌%◌, Bool, cond, not, ◌&&◌, ◌||◌, eqb, leb, ltb, length, get_or, take, drop, Result, Ok, Err}
+use Rattle.std.specs.Result.{is_ok}
 use mathlib.Core.List.{List, [], ◌∷◌, ◌++◌, flat_map}
+use Rattle.refusal.specs.declared.Refusal.{Refusal}
+use Rattle.refusal.specs.declared.Refusal.TheVariants.{SheetCounts, SheetLength, SheetRange, SheetNoRoom}
+use Rattle.refusal.specs.Refusals.{Test, clear, checked}
 use Rattle.sheet.specs.Index.{some_below, table}
 use Rattle.sheet.specs.Record.{move_of}
 use Rattle.sheet.specs.Grounds.{outside, parts_ground}
 use Rattle.sheet.specs.declared.Transition.{Transition}
 use Rattle.sheet.specs.declared.Sheet.{Sheet}
-use Rattle.sheet.specs.declared.Written.{Written}
 
 -- ---- the record (01, "Protocol sheets", the paragraph "Record", from the parts to the bytes)
 
@@ -72,20 +75,20 @@ stray_mark counts marks k = leb (get_or counts (k / 8) 0) (k % 8) && not (eqb (g
 abbrev pub stray_marks : Sheet → Bool
 stray_marks s = some_below (stray_mark s.counts s.marks) 32
 
--- the first of grounds 23 to 29 against the parts, 0 for none
-unfoldable pub write_ground : Sheet → ℕ
-write_ground s = cond (wrong_counts s) 23 (cond (wrong_moves s) 24 (cond (stray_marks s) 25 (parts_ground s)))
+-- the first of grounds 23 to 29 against the parts, clear where none holds
+unfoldable pub write_ground : Sheet → Test
+write_ground s =
+    cond (wrong_counts s) (Err SheetCounts) (cond (wrong_moves s) (Err SheetLength) (cond (stray_marks s) (Err SheetRange) (parts_ground s)))
 
 -- ---- the answer
 
 -- "32, not enough room for the whole record, tested after 29": so many bytes are free
-unfoldable pub refusal_for : Sheet → ℕ → ℕ
-refusal_for s free = cond (eqb (write_ground s) 0) (cond (leb (length (record_of s)) free) 0 32) (write_ground s)
+unfoldable pub refusal_for : Sheet → ℕ → Test
+refusal_for s free = checked (write_ground s) (cond (leb (length (record_of s)) free) clear (Err SheetNoRoom))
 
 -- "the room is unchanged on any refusal, else past the record": the answer, and the room then
-unfoldable pub write_of : Sheet → List ℕ → Written × List ℕ
-write_of s room =
-    cond (eqb (refusal_for s (length room)) 0) (
-      record { refusal = 0; length = length (record_of s) },
-      record_of s ++ drop (length (record_of s)) room,
-    ) (record { refusal = refusal_for s (length room); length = 0 }, room)
+unfoldable pub write_of : Sheet → List ℕ → Result ℕ Refusal × List ℕ
+write_of s room = (
+  checked (refusal_for s (length room)) (Ok (length (record_of s))),
+  cond (is_ok (refusal_for s (length room))) (record_of s ++ drop (length (record_of s)) room) room,
+)

@@ -1,29 +1,33 @@
 // Grounds 21 to 24: the record's frame and its counts.
 ghost use Rattle.std.specs.Prelude.{◌≡◌};
+ghost use Rattle.std.specs.List.{list_any};
 ghost use Rattle.sheet.specs.Grounds.{misframed, outside, miscounted, mismeasured, frame_ground};
 
 use super::record;
+use refusal::Refusal;
 
-// The first of grounds 21 to 24, 0 for none.
-pub(crate) fn frame_ground(bytes: &[u8]) -> u8
+// The first of grounds 21 to 24.
+#[tactic(auto, unfolding(crate::specs::Grounds::frame_ground, crate::specs::Grounds::misversioned))]
+pub(crate) fn frame_ground(bytes: &[u8]) -> Result<(), Refusal>
     ensures { result ≡ frame_ground bytes.now }
 {
     if is_misframed(bytes) {
-        return 21;
+        return Err(Refusal::SheetSize);
     }
     if record::byte_at(bytes, 2) != 1 {
-        return 22;
+        return Err(Refusal::SheetVersion);
     }
     if is_miscounted(bytes) {
-        return 23;
+        return Err(Refusal::SheetCounts);
     }
     if is_mismeasured(bytes) {
-        return 24;
+        return Err(Refusal::SheetLength);
     }
-    0
+    Ok(())
 }
 
 // Ground 21: fewer than 2 bytes, not exactly 2 + L, or L = 0.
+#[tactic(auto, unfolding(crate::specs::Grounds::misframed))]
 fn is_misframed(bytes: &[u8]) -> bool
     ensures { result ≡ misframed bytes.now }
 {
@@ -31,20 +35,15 @@ fn is_misframed(bytes: &[u8]) -> bool
         return true;
     }
     let length = record::pair_at(bytes, 0) as usize;
-    if bytes.len() != 2 + length {
-        return true;
-    }
-    length == 0
+    bytes.len() != 2 + length || length == 0
 }
 
 // Whether a number is not among least to most.
+#[tactic(auto, unfolding(crate::specs::Grounds::outside))]
 pub(crate) fn is_outside(x: u8, least: u8, most: u8) -> bool
     ensures { result ≡ outside least most x }
 {
-    if x < least {
-        return true;
-    }
-    most < x
+    !(least..=most).contains(&x)
 }
 
 // Ground 23: site or state count missing or outside its range.
@@ -55,29 +54,31 @@ fn is_miscounted(bytes: &[u8]) -> bool
     if is_outside(sites, 2, 4) {
         return true;
     }
-    let mut i: usize = 0;
-    while i < sites as usize {
-        let count = record::byte_at(bytes, 4 + i);
-        if is_outside(count, 1, 8) {
-            return true;
-        }
-        i += 1;
-    }
-    false
+    let Some(counts) = bytes.get(4..4 + sites as usize) else {
+        return true;
+    };
+    has_wrong_count(counts)
+}
+
+// Whether some state count is outside its range.
+fn has_wrong_count(counts: &[u8]) -> bool
+    ensures { result ≡ list_any (outside 1 8) counts.now }
+{
+    counts.iter().any(|count| is_outside(*count, 1, 8))
 }
 
 // Ground 24: no transition count, count over 64, or L not what the counts give.
+#[tactic(auto, unfolding(crate::specs::Grounds::mismeasured_by))]
 fn is_mismeasured(bytes: &[u8]) -> bool
     ensures { result ≡ mismeasured bytes.now }
 {
     let moves_at = record::moves_at(bytes);
-    let moves = record::byte_at(bytes, moves_at) as usize;
-    if bytes.len() <= moves_at {
+    let Some(moves) = bytes.get(moves_at) else {
         return true;
-    }
-    if 64 < moves {
+    };
+    if 64 < *moves {
         return true;
     }
     let length = record::pair_at(bytes, 0) as usize;
-    length != moves_at - 1 + 12 * moves
+    length != moves_at - 1 + 12 * *moves as usize
 }

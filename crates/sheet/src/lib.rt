@@ -4,11 +4,14 @@
 #![tactic(auto)]
 
 ghost use Rattle.std.specs.Prelude.{◌≡◌};
-ghost use Rattle.sheet.specs.Record.{no_transition, no_sheet};
+ghost use Rattle.sheet.specs.Record.{no_sheet};
 ghost use Rattle.sheet.specs.Grounds.{sheet_ground, sheet_of};
+ghost use Rattle.refusal.specs.Refusals.{clear};
 ghost use Rattle.sheet.specs.Fine.{Fine};
 ghost use Rattle.sheet.specs.Write.{write_of};
 ghost use Rattle.sheet.specs.Parts.{parts_from, parts_put};
+
+use refusal::Refusal;
 
 mod record; // record.rt: the parts of a record
 mod frame; // frame.rt: grounds 21 to 24, about the bytes
@@ -21,7 +24,7 @@ mod parts_bytes; // parts_bytes.rt: the parts as 810 bytes
 pub const PARTS: usize = 810;
 
 // A transition of one site (01, "Protocol sheets"): sets of messages are masks, message m at weight 2^m.
-#[derive(Clone, Copy)]
+#[derive(Clone, Copy, PartialEq, Eq, Default)]
 pub struct Transition {
     pub site: u8,
     pub from: u8,
@@ -33,6 +36,8 @@ pub struct Transition {
 
 // A protocol sheet's parts: number of sites, state counts, marks at 8 * (site - 1) + state, first messages,
 // number of transitions, transitions; what a sheet does not have is zero.
+// Marks, sites, states and votes are bytes and no enums, here and in a transition: any byte is taken, and grounds say which are wrong. The
+// number of transitions stands beside 64 places: memory is fixed, and what lies behind the number is part of the 810 bytes too (`round_trip`).
 #[derive(Clone, Copy)]
 pub struct Sheet {
     pub sites: u8,
@@ -43,103 +48,68 @@ pub struct Sheet {
     pub transitions: [Transition; 64],
 }
 
-// The first ground against a record, 21 to 29, or 0.
-pub fn ground(bytes: &[u8]) -> u8
+// The first ground against a record, of 21 to 29.
+pub fn ground(bytes: &[u8]) -> Result<(), Refusal>
     ensures { result ≡ sheet_ground bytes.now }
 {
-    let frame = frame::frame_ground(bytes);
-    if frame != 0 {
-        return frame;
-    }
-    let sheet = record::parts(bytes);
-    grounds::parts_ground(sheet)
+    frame::frame_ground(bytes)?;
+    grounds::parts_ground(&record::parts(bytes))
 }
 
-// The parts of a record, none where a ground from 21 to 24 stands against it. Where no ground does, they are fine.
+// The parts of a record, none where a ground from 21 to 24 stands against it. Where no ground does, they are fine. It is public and cannot fail,
+// so it is no Result; nor is `from_parts`.
 pub fn parts(bytes: &[u8]) -> Sheet
     ensures value { result ≡ sheet_of bytes.now }
-    ensures fine { sheet_ground bytes.now ≡ 0 → Fine result }
+    ensures fine { sheet_ground bytes.now ≡ clear → Fine result }
 {
-    if frame::frame_ground(bytes) != 0 {
+    if frame::frame_ground(bytes).is_err() {
         return no_sheet();
     }
     record::parts(bytes)
 }
 
-// What the writer answers: the refusal, or 0 and the length of the record.
-#[derive(Clone, Copy)]
-pub struct Written {
-    pub refusal: u8,
-    pub length: usize,
-}
-
-// Writes the record of a sheet's parts at the front of a room. Refused, with 23 to 29 or 32, it leaves the room as it is.
-pub fn write(sheet: Sheet, room: &mut [u8]) -> Written
+// Writes the record of a sheet's parts at the front of a room, and says how long it is. Refused, with 23 to 29 or 32, it leaves the room as it is.
+pub fn write(sheet: Sheet, room: &mut [u8]) -> Result<usize, Refusal>
     ensures { (result ≡ (write_of sheet room.old).0) × (room.new ≡ (write_of sheet room.old).1) }
 {
-    let ground = writer::write_ground(sheet);
-    if ground != 0 {
-        return Written {
-            refusal: ground,
-            length: 0,
-        };
-    }
-    let length = writer::record_length(sheet);
+    writer::write_ground(&sheet)?;
+    let length = writer::record_length(&sheet);
     if room.len() < length {
-        return Written {
-            refusal: 32,
-            length: 0,
-        };
+        return Err(Refusal::SheetNoRoom);
     }
-    writer::put_record(room, sheet, length);
-    Written { refusal: 0, length }
+    writer::put_record(room, &sheet, length);
+    Ok(length)
 }
 
 // The sheet whose parts 810 bytes are; no sheet where there are more or fewer.
 pub fn from_parts(bytes: &[u8]) -> Sheet
     ensures { result ≡ parts_from bytes.now }
 {
-    if bytes.len() != PARTS {
-        return no_sheet();
+    match bytes.as_array() {
+        Some(parts) => parts_bytes::sheet_from(parts),
+        None => no_sheet(),
     }
-    parts_bytes::sheet_from(bytes)
 }
 
 // Puts the parts of a sheet as bytes at the front of a room; one with fewer than 810 bytes stays as it is.
 pub fn put_parts(sheet: Sheet, room: &mut [u8])
     ensures { room.new ≡ parts_put sheet room.old }
 {
-    if room.len() < PARTS {
-        return;
+    if let Some(front) = room.first_chunk_mut() {
+        parts_bytes::put_all(front, &sheet);
     }
-    parts_bytes::put_all(room, sheet);
 }
 
-// No sheet: all parts zero.
+// No sheet: all parts zero. Rust's `Default` has no arrays of 64, so none is derived.
 fn no_sheet() -> Sheet
     ensures { result ≡ no_sheet }
 {
-    let none = no_transition();
     Sheet {
         sites: 0,
         counts: [0; 4],
         marks: [0; 32],
         first: 0,
         moves: 0,
-        transitions: [none; 64],
-    }
-}
-
-// No transition: all fields zero.
-fn no_transition() -> Transition
-    ensures { result ≡ no_transition }
-{
-    Transition {
-        site: 0,
-        from: 0,
-        to: 0,
-        vote: 0,
-        reads: 0,
-        writes: 0,
+        transitions: [Transition::default(); 64],
     }
 }

@@ -1,17 +1,14 @@
 -- `from_parts` meets its contract: what 810 bytes tell, or no sheet.
 -- Assumes nothing.
-use native.Mathlib.Omega.{arith}
+use mathlib.Core.Path.{ap, ◌∙◌}
 use borrow.Author.Tests.{eq-eqb, ne_eqb}
-use Rattle.sheet.specs.Parts.{parts_size, parts_from}
+use Rattle.sheet.specs.Parts.{parts_size, parts_in, parts_from}
 use Rattle.sheet.proofs.from_parts.Goals as goal
 
-pub returns-then-bytes-ne-PARTS : goal.returns-then-bytes-ne-PARTS
+pub returns-in-Some : goal.returns-in-Some
 unfolding parts_from
-returns-then-bytes-ne-PARTS c = simp (ne_eqb _ parts_size c.if-bytes-ne-PARTS.true) c.no_sheet.ensures
+returns-in-Some c = simp (eq-eqb _ parts_size c.in-Some.ensures.cases.long) (c.sheet_from.ensures ∙ ap parts_in c.in-Some.ensures.cases.same)
 
-pub sheet_from-requires : goal.sheet_from-requires
-sheet_from-requires c = omega (arith, c.if-bytes-ne-PARTS.false)
-
-pub returns : goal.returns
+pub returns-in-None : goal.returns-in-None
 unfolding parts_from
-returns c = simp (eq-eqb _ parts_size c.if-bytes-ne-PARTS.false) c.sheet_from.ensures
+returns-in-None c = simp (ne_eqb _ parts_size c.in-None.ensures.cases) c.no_sheet.ensures

@@ -1,14 +1,10 @@
--- `marks_of` meets its contract: the places passed are filled, and the next mark stands after those passed.
+-- `marks_of` meets its contract: the marks of the sites passed are read, and the next mark stands after theirs.
 -- Assumes nothing.
-use Prim.Native.Nat.{◌+◌, ◌-◌, ◌≤◌}
+use Prim.Native.Nat.{◌+◌}
 use mathlib.Core.Path.{◌≡◌}
-use Rattle.sheet.proofs.IndexLaws.{Filled}
-use Rattle.sheet.specs.Record.{mark_read}
-use Rattle.sheet.proofs.Marks.{passed}
+use Rattle.sheet.specs.Record.{states_before}
+use Rattle.sheet.proofs.Marks.{MarksRead}
 use Rattle.sheet.proofs.record.marks_of.Given as goal
 
-abbrev pub invariant-loop-k : goal.invariant-loop-k
-invariant-loop-k l = Filled (mark_read l.bytes l.sites l.counts) 0 32 l.k l.marks × (l.at ≡ 4 + l.sites + passed l.counts l.k) × (l.at ≤ 259 + l.k)
-
-abbrev pub decreases-loop-k : goal.decreases-loop-k
-decreases-loop-k l = 32 - l.k
+abbrev pub invariant-loop-i : goal.invariant-loop-i
+invariant-loop-i l = MarksRead l.bytes l.sites l.counts l.i l.marks × (l.at ≡ 4 + l.sites + states_before l.counts l.i)

@@ -1,36 +1,24 @@
 -- What is left to show.
-use mathlib.Core.Path.{ap, ◌∙◌}
+use mathlib.Core.Path.{◌∙◌}
 use native.Mathlib.Omega.{arith}
 use borrow.Author.Rules.{rules}
-use mir.Syntax.{w8}
-use mir.Val.{Fits}
-use lib.ListN.{get_or}
-use Rattle.sheet.proofs.IndexLaws.{sum_none, sum_more}
+use Rattle.std.proofs.lemmas.Iterator.{YieldsList-from_slice, YieldsList-from_map}
+use Rattle.std.proofs.lemmas.Iterator.Consumers.{sum_by_from_yields_List, fits_by_from_yields_list}
+use Rattle.sheet.proofs.IndexLaws.{sum_of}
+use Rattle.sheet.proofs.Marks.{states_few}
 use Rattle.sheet.specs.Record.{states_before}
 use Rattle.sheet.proofs.record.states_of.Goals as goal
 
-pub loop-j-init : goal.loop-j-init
+pub sum-requires-clause-fits : goal.sum-requires-clause-fits
 unfolding states_before
-loop-j-init c = (omega arith, omega (arith, sum_none (λ j. get_or c.args.counts j 0)), omega arith)
-
-pub bounds-counts-j : goal.bounds-counts-j
-bounds-counts-j c = omega arith
-
-pub overflow_add-states : goal.overflow_add-states
-overflow_add-states c = let b : Fits w8 (get_or c.args.counts c.loop-j.j 0) = search rules in omega (arith, b.fits)
-
-pub overflow_add-j : goal.overflow_add-j
-overflow_add-j c = omega arith
-
-pub loop-j-smaller : goal.loop-j-smaller
-loop-j-smaller c = omega arith
-
-pub loop-j-preserved : goal.loop-j-preserved
-unfolding states_before
-loop-j-preserved c =
-    let b : Fits w8 (get_or c.args.counts c.loop-j.j 0) = search rules in
-    let more = sum_more (λ j. get_or c.args.counts j 0) c.loop-j.j in
-    (omega arith, omega (arith, more, c.loop-j.invariant.1), omega (arith, b.fits))
+sum-requires-clause-fits c =
+    let all = sum_of (λ x. x) 0 c.args.counts 4 (search rules) in
+    fits_by_from_yields_list (λ x. x) c.args.counts c.map.result _ (YieldsList-from_map _ (λ x. x) (YieldsList-from_slice c.args.counts cc) c.map.ensures.closure (λ x r q k. search rules))
+    (omega (arith, all, states_few c.args.counts (search rules)))
 
 pub returns : goal.returns
-returns c = (c.loop-j.invariant.1 ∙ ap (states_before _) (omega arith), omega arith)
+unfolding states_before
+returns c =
+    let all = sum_of (λ x. x) 0 c.args.counts 4 (search rules) in
+    let total = sum_by_from_yields_List (λ x. x) c.args.counts c.map.result c.sum.result c.sum.ensures.ran (YieldsList-from_map _ (λ x. x) (YieldsList-from_slice c.args.counts cc) c.map.ensures.closure (λ x r q k. search rules)) in
+    (total ∙ all, omega (arith, total, all, states_few c.args.counts (search rules)))

@@ -1,25 +1,18 @@
--- What is left to show.
+-- `transitions_of` meets its contract: one call for each place.
+-- Assumes nothing.
+use mathlib.Core.Bool.{cond}
+use mathlib.Core.List.{[]}
 use mathlib.Core.Path.{◌∙◌}
-use native.Mathlib.Omega.{arith}
 use borrow.Author.Rules.{rules}
-use borrow.Author.Tests.{lt-ltb, le-ltb}
-use lib.ListN.{get_or-replicate}
-use lib.Seq.{get_or-set_other}
-use Rattle.sheet.proofs.IndexLaws.{filling_begins, filling_goes_on, filling_rest, filling_ends}
-use Rattle.sheet.specs.Record.{transition_in, no_transition}
+use lib.Dec.{ltb}
+use lib.ListN.{length, get_or}
+use Rattle.sheet.proofs.Made.{made}
+use Rattle.sheet.proofs.Rows.{rows_read}
+use Rattle.sheet.specs.Record.{transition_from, no_transition}
 use Rattle.sheet.proofs.record.transitions_of.Goals as goal
 
-pub loop-k-init : goal.loop-k-init
-loop-k-init c = (omega arith, filling_begins _ no_transition 64 _ (search rules), λ j h l. get_or-replicate 64 j _ no_transition l ∙ c.no_transition-none.ensures)
-
-pub loop-k-preserved : goal.loop-k-preserved
-unfolding transition_in
-loop-k-preserved c = (
-  omega arith,
-  filling_goes_on c.loop-k.invariant.1 (omega arith) (c.transition_from.ensures ∙ simp (lt-ltb _ _ c.loop-k-test.true)),
-  λ j h l. get_or-set_other c.loop-k.transitions c.loop-k.k j _ no_transition (λ e. absurd (omega arith)) ∙ c.loop-k.invariant.2 j (omega arith) l,
-)
-
 pub returns : goal.returns
-unfolding transition_in
-returns c = filling_ends (filling_rest c.loop-k.invariant.1 c.loop-k.invariant.2 (λ j h. simp (le-ltb j c.args.moves (omega arith)))) (omega arith)
+returns c =
+    let rows = c.as_chunks.result.0.now in
+    made _ _ (λ k. cond (ltb k (length rows)) (transition_from (get_or rows k []) 0) no_transition) (λ i y q k. search rules) no_transition c.from_fn.result 64 c.from_fn.ensures.items
+    ∙ rows_read c.args.bytes.now _ rows c.as_chunks.ensures.front

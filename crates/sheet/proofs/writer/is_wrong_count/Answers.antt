@@ -7,6 +7,6 @@ pub returns-then-there : goal.returns-then-there
 unfolding wrong_count
 returns-then-there c = simp c.if-there.true c.is_outside.ensures
 
-pub returns : goal.returns
+pub returns-else-there : goal.returns-else-there
 unfolding wrong_count
-returns c = simp c.if-there.false
+returns-else-there c = simp c.if-there.false

@@ -1,13 +1,12 @@
 -- `put_marks` meets its contract: site after site is put.
 -- Assumes nothing.
-use Prim.Native.Nat.{◌-◌}
+use mathlib.Core.Path.{◌≡◌}
 use Rattle.text.proofs.Putting.{Each}
 use Rattle.sheet.proofs.Pieces.{up_to}
 use Rattle.sheet.specs.Write.{site_marks}
 use Rattle.sheet.proofs.writer.put_marks.Given as goal
 
 abbrev pub invariant-loop-i : goal.invariant-loop-i
-invariant-loop-i l = Each (site_marks l.counts l.marks) 4 (up_to 4) l.initial.room l.at l.i l.room l.to
-
-abbrev pub decreases-loop-i : goal.decreases-loop-i
-decreases-loop-i l = 4 - l.i
+invariant-loop-i l =
+    (l.page.text.ghost_name ≡ l.initial.page.text.ghost_name)
+    × Each (site_marks l.counts l.marks) 4 (up_to 4) l.initial.page.text.now l.initial.page.at l.i l.page.text.now l.page.at

@@ -1,12 +1,15 @@
 -- `put_record` meets its contract: piece after piece.
 -- Assumes nothing.
+use Prim.Native.Nat.{ℕ}
+use mathlib.Core.List.{List}
+use mathlib.Core.Path.{sym, ap, ◌∙◌}
 use native.Mathlib.Omega.{arith}
 use lib.ListN.{take}
 use lib.Seq.{length-take-le}
+use Rattle.std.specs.List.{flat_map as joined}
 use Rattle.text.proofs.Putting.{next, fits_next, length_mapped}
 use Rattle.sheet.specs.Write.{four_bytes, middle_bytes, record_of}
-use Rattle.sheet.specs.RoundTrip.{Shaped}
-use Rattle.sheet.proofs.WriteLaws.{sized, transitions_length, headed, recorded}
+use Rattle.sheet.proofs.WriteLaws.{sized, formed, moves_few, headed, recorded, rows_are, rows_length, offered}
 use borrow.Author.Rules.{rules}
 use Rattle.sheet.proofs.writer.put_record.Goals as goal
 
@@ -14,21 +17,46 @@ pub overflow_sub-size : goal.overflow_sub-size
 unfolding record_of
 overflow_sub-size c = omega (arith, c.requires.1)
 
-pub put_head-marked-requires : goal.put_head-marked-requires
-put_head-marked-requires c = let shaped : Shaped c.args.sheet = record { counts = search rules; marks = search rules; transitions = search (rules, length_mapped) } in let z = sized c.args.sheet shaped c.requires.0 in (omega (arith, z.long, z.four, z.most, z.states, c.requires.1), z.four, omega (arith, z.long, c.requires.1, c.requires.2))
+pub overflow_cast-size : goal.overflow_cast-size
+overflow_cast-size c =
+    let s = c.args.sheet.now in
+    let z = sized s (record { counts = search rules; marks = search rules; transitions = search (rules, length_mapped) }) c.requires.0 in
+    record { fits = omega (arith, z.long, z.four, z.most, z.states, c.requires.1) }
 
-pub put_marks-first-requires : goal.put_marks-first-requires
-put_marks-first-requires c = let shaped : Shaped c.args.sheet = record { counts = search rules; marks = search rules; transitions = search (rules, length_mapped) } in ((sized c.args.sheet shaped c.requires.0).few, fits_next (headed c.args.sheet c.args.room.now c.args.size c.requires.1 c.requires.2 c.put_head-marked.ensures))
+pub put_head-requires : goal.put_head-requires
+put_head-requires c =
+    let s = c.args.sheet.now in
+    let z = sized s (record { counts = search rules; marks = search rules; transitions = search (rules, length_mapped) }) c.requires.0 in
+    (z.four, omega (arith, z.long, c.requires.1, c.requires.2))
+
+pub put_marks-requires : goal.put_marks-requires
+put_marks-requires c =
+    let s = c.args.sheet.now in
+    let z = sized s (record { counts = search rules; marks = search rules; transitions = search (rules, length_mapped) }) c.requires.0 in
+    (z.few, fits_next (headed s c.args.room.now c.args.size c.requires.1 c.requires.2 c.put_head.ensures.put))
 
 pub overflow_cast-sheet : goal.overflow_cast-sheet
-overflow_cast-sheet c = let shaped : Shaped c.args.sheet = record { counts = search rules; marks = search rules; transitions = search (rules, length_mapped) } in omega (arith, (sized c.args.sheet shaped c.requires.0).most)
+overflow_cast-sheet c = omega (arith, moves_few c.args.sheet.now (formed c.args.sheet.now c.requires.0).moved)
 
-pub put_middle-moved-requires : goal.put_middle-moved-requires
+pub put_middle-requires : goal.put_middle-requires
 unfolding middle_bytes four_bytes
-put_middle-moved-requires c = fits_next (next (headed c.args.sheet c.args.room.now c.args.size c.requires.1 c.requires.2 c.put_head-marked.ensures) c.put_marks-first.ensures)
+put_middle-requires c =
+    fits_next (next (headed c.args.sheet.now c.args.room.now c.args.size c.requires.1 c.requires.2 c.put_head.ensures.put) c.put_marks.ensures.put)
 
-pub put_transitions-requires : goal.put_transitions-requires
-put_transitions-requires c = let shaped : Shaped c.args.sheet = record { counts = search rules; marks = search rules; transitions = search (rules, length_mapped) } in let z = sized c.args.sheet shaped c.requires.0 in (z.most, omega (arith, fits_next (next (next (headed c.args.sheet c.args.room.now c.args.size c.requires.1 c.requires.2 c.put_head-marked.ensures) c.put_marks-first.ensures) c.put_middle-moved.ensures), transitions_length (take c.args.sheet.moves c.args.sheet.transitions), length-take-le c.args.sheet.moves c.args.sheet.transitions (omega (arith, shaped.transitions, z.most))))
+pub slice_bounds-rows-end : goal.slice_bounds-rows-end
+slice_bounds-rows-end c =
+    let s = c.args.sheet.now in
+    omega (arith, moves_few s (formed s c.requires.0).moved, rows_length s.transitions c.rows_of-rows.ensures (search (rules, length_mapped)))
+
+pub slice_bounds-as_flattened-end : goal.slice_bounds-as_flattened-end
+slice_bounds-as_flattened-end c =
+    let s = c.args.sheet.now in
+    sym (length-take-le s.moves _ (omega (arith, moves_few s (formed s c.requires.0).moved, rows_length s.transitions c.rows_of-rows.ensures (search (rules, length_mapped)))))
 
 pub returns : goal.returns
-returns c = recorded c.args.sheet c.args.room.now c.args.size c.requires.1 c.requires.2 (next (next (next (headed c.args.sheet c.args.room.now c.args.size c.requires.1 c.requires.2 c.put_head-marked.ensures) c.put_marks-first.ensures) c.put_middle-moved.ensures) c.put_transitions.ensures)
+returns c =
+    let s = c.args.sheet.now in
+    let head = headed s c.args.room.now c.args.size c.requires.1 c.requires.2 c.put_head.ensures.put in
+    let rest = next (next head c.put_marks.ensures.put) c.put_middle.ensures.put in
+    let rows = c.as_flattened.ensures.value ∙ ap (λ (l : List (List ℕ)). joined (λ (x : List ℕ). x) (take s.moves l)) c.rows_of-rows.ensures ∙ rows_are s.transitions s.moves in
+    search rules ∙ recorded s c.args.room.now c.args.size c.requires.1 c.requires.2 (offered rest rows c.put.ensures)

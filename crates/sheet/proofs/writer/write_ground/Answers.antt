@@ -18,7 +18,7 @@ unfolding write_ground
 returns-then-has_stray_mark c = simp (← c.has_wrong_counts.ensures, c.if-has_wrong_counts.false, ← c.has_wrong_moves.ensures, c.if-has_wrong_moves.false, ← c.has_stray_mark.ensures, c.if-has_stray_mark.true)
 
 pub parts_ground-requires : goal.parts_ground-requires
-parts_ground-requires c = (moves_few c.args.sheet (sym c.has_wrong_moves.ensures ∙ c.if-has_wrong_moves.false), (sites_among c.args.sheet (sym c.has_wrong_counts.ensures ∙ c.if-has_wrong_counts.false)).high)
+parts_ground-requires c = (moves_few c.args.sheet.now (sym c.has_wrong_moves.ensures ∙ c.if-has_wrong_moves.false), (sites_among c.args.sheet.now (sym c.has_wrong_counts.ensures ∙ c.if-has_wrong_counts.false)).high)
 
 pub returns : goal.returns
 unfolding write_ground
