@@ -8,6 +8,8 @@ use mathlib.Core.Logic.{◌≢◌}
 use native.Mathlib.Omega.{arith}
 use native.Mathlib.Decide.{dec_lt}
 use borrow.Author.Tests.{ne_eqb, lt-ltb, le-ltb}
+use Rattle.std.proofs.Common.{Option, Some, None}
+use Rattle.std.specs.Option.{unwrap_or}
 use lib.Dec.{eqb, leb, ltb, lit≤}
 use lib.ListN.{length, get_or, length-append}
 use Rattle.text.specs.Said.{said}
@@ -18,13 +20,16 @@ use Rattle.sets.proofs.SetLaws.{one_if}
 use Rattle.sheet.specs.Index.{sum_below}
 use Rattle.sheet.specs.Fine.{Fine}
 use Rattle.sheet.specs.declared.Sheet.{Sheet}
-use Rattle.judge.specs.Facts.{tolerance_of, stands, mark_of, no_local, Ruling, Obeying, Says, Breaks}
+use Rattle.judge.specs.Facts.{tolerance_of, condition_number, stands, mark_of, no_local, Ruling, Obeying, Says}
 use Rattle.judge.specs.Facts.Ruling.{nonblocking, blocking}
-use Rattle.judge.specs.Facts.Breaks.{breaks_1, breaks_2}
 use Rattle.judge.specs.Facts.Obeying.{start, more, same}
+use Rattle.judge.specs.declared.Condition.{Condition}
+use Rattle.judge.specs.declared.Condition.TheVariants.{First, Second}
+use Rattle.judge.specs.declared.Decision.{Decision}
+use Rattle.judge.specs.declared.Decision.TheVariants.{Unreached, Abort, Commit, Blocked}
 use Rattle.judge.specs.declared.Local.{Local}
 use Rattle.judge.specs.declared.Verdict.{Verdict}
-use Rattle.report.specs.Report.{up_to, name_of, mark_word, yes_word, decision_word, member_of, member_in, members_of, set_word, state_line, line_in, state_lines, head_line, blocking_line, ruling_line, tolerance_line, refused_line, accepted_text}
+use Rattle.report.specs.Report.{up_to, name_of, mark_word, yes_word, decision_word, member_of, member_in, members_of, set_word, state_line, line_in, state_lines, head_line, blocking_line, blocking_or_none, ruling_line, tolerance_line, refused_line, accepted_text}
 
 -- ---- pieces
 
@@ -67,15 +72,12 @@ unfolding yes_word
 yes_size true = omega arith
 yes_size false = omega arith
 
-decision_size : (d : ℕ) → length (decision_word d) ≤ 8
+decision_size : (d : Decision) → length (decision_word d) ≤ 8
 unfolding decision_word
-decision_size d = go (eqb d 0) (eqb d 1) (eqb d 2)
-  where
-    go : (a b c : Bool) → length (cond a (said "-\n") (cond b (said "abort\n") (cond c (said "commit\n") (said "blocked\n")))) ≤ 8
-    go true b c = omega arith
-    go false true c = omega arith
-    go false false true = omega arith
-    go false false false = omega arith
+decision_size Unreached = omega arith
+decision_size Abort = omega arith
+decision_size Commit = omega arith
+decision_size Blocked = omega arith
 
 -- ---- a set: of 32 local states, 24 are of other sites
 
@@ -209,21 +211,18 @@ blocking_size i j c h k l =
       digit c l,
     )
 
-tolerance_size : (t : ℕ) → t < 10 → length (tolerance_line t) ≤ 21
+tolerance_size : (t : Option ℕ) → unwrap_or t 0 < 10 → length (tolerance_line t) ≤ 21
 unfolding tolerance_line
-tolerance_size t h = go (eqb t 0)
-  where
-    go : (b : Bool) → length (cond b (said "tolerance not stated\n") (flatten (said "tolerance " ∷ decimal t ∷ said "\n" ∷ []))) ≤ 21
-    go true = lit≤ tt
-    go false =
-        omega (arith, join_more (said "tolerance ") (decimal t ∷ said "\n" ∷ []), join_more (decimal t) (said "\n" ∷ []), join_more (said "\n") [], join_none, digit t h)
+tolerance_size None h = lit≤ tt
+tolerance_size (Some t) h =
+    omega (arith, join_more (said "tolerance ") (decimal t ∷ said "\n" ∷ []), join_more (decimal t) (said "\n" ∷ []), join_more (said "\n") [], join_none, digit t h)
 
 -- a tolerance is no more than the sites that obey
-tolerance_most : (m : ℕ) → tolerance_of m ≤ m
+tolerance_most : (m : ℕ) → unwrap_or (tolerance_of m) 0 ≤ m
 unfolding tolerance_of
 tolerance_most m = go (leb 3 m)
   where
-    go : (b : Bool) → cond {A = ℕ} b (m - 1) 0 ≤ m
+    go : (b : Bool) → unwrap_or (cond b (Some (m - 1)) None) 0 ≤ m
     go true = omega arith
     go false = omega arith
 
@@ -238,15 +237,15 @@ obeying_most start = omega arith
 obeying_most (more o e) = omega (arith, obeying_most o)
 obeying_most (same o e) = omega (arith, obeying_most o)
 
-breaks_low : {s : Sheet} {p c : ℕ} → Breaks s p c → c < 10
-breaks_low (breaks_1 f) = omega arith
-breaks_low (breaks_2 f) = omega arith
+condition_low : (c : Condition) → condition_number c < 10
+condition_low First = omega arith
+condition_low Second = omega arith
 
 ruling_size : (s : Sheet) (v : Verdict) → s.sites ≤ 4 → Ruling s v → length (ruling_line v) ≤ 36
-unfolding ruling_line
-ruling_size s v h (nonblocking e a b c n) = simp e (omega arith)
-ruling_size s v h (blocking e l) =
-    simp e (blocking_size v.site v.state v.condition (omega (arith, l.most)) (omega (arith, l.small)) (breaks_low l.broken))
+unfolding blocking_or_none
+ruling_size s v h (nonblocking e n) = simp e (omega arith)
+ruling_size s v h (blocking w e l) =
+    simp e (blocking_size w.site w.state (condition_number w.condition) (omega (arith, l.most)) (omega (arith, l.small)) (condition_low w.condition))
 
 pub accepted_size : (s : Sheet) (v : Verdict) → Fine s → v.states ≤ 4096 → Says s v → length (accepted_text s v) ≤ 3731
 unfolding accepted_text line_in
@@ -264,7 +263,8 @@ accepted_size s v f n a =
       head_size v.sites v.states (omega (arith, a.sites, f.most)) (omega arith),
       lines_size s v.locals each 32 (omega arith),
       ruling_size s v f.most a.ruling,
-      tolerance_size v.tolerance (omega (arith, a.tolerance.is, tolerance_most a.tolerance.sites, obeying_most a.tolerance.obeying, f.most)),
+      tolerance_size v.tolerance
+          (omega (arith, ap (λ (t : Option ℕ). unwrap_or t 0) a.tolerance.is, tolerance_most a.tolerance.sites, obeying_most a.tolerance.obeying, f.most)),
     )
   where
     each : (p : ℕ) → p < 32 → length (line_in s v.locals p) ≤ 114

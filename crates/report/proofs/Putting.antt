@@ -1,9 +1,8 @@
 -- Words, names and members as pieces of the report, and a piece for each number below k.
 -- Assumes nothing.
-use Prim.Native.Nat.{ℕ, zero, suc, ◌+◌, ◌-◌, ◌/◌, ◌%◌, ◌≤◌, ◌<◌}
-use mathlib.Core.Bool.{Bool, true, false}
-use mathlib.Core.List.{List, [], ◌∷◌, ◌++◌, flatten}
-use mathlib.Core.Path.{◌≡◌, sym, ap, subst, subst⁻¹, ◌∙◌}
+use Prim.Native.Nat.{ℕ, zero, suc, ◌+◌, ◌-◌, ◌≤◌, ◌<◌}
+use mathlib.Core.List.{List, [], ◌∷◌, ◌++◌, flatten, append_assoc, append-nil}
+use mathlib.Core.Path.{◌≡◌, refl, sym, ap, subst, ◌∙◌}
 use native.Mathlib.Omega.{arith}
 use native.Mathlib.Nat.{add-zero}
 use lib.ListN.{length, length-append}
@@ -11,26 +10,39 @@ use borrow.Author.Tests.{lt-ltb, le-ltb}
 use lib.Dec.{ltb}
 use native.Mathlib.Numerals.{add-one}
 use native.Mathlib.Decide.{dec_lt}
-use Rattle.text.specs.Text.{Put, end_of, spliced}
-use Rattle.text.proofs.TextLaws.{put_fits, put_then, put_length}
-use Rattle.text.proofs.Putting.{put_none, Going, begin, next_by}
-use Rattle.text.specs.Said.{said}
-use Rattle.text.proofs.DecimalLaws.{decimal_one}
-use Rattle.report.specs.Report.{up_to, name_of, member_of}
+use Rattle.text.specs.declared.Page.{Page}
+use Rattle.text.specs.Page.{Written}
+use Rattle.text.proofs.PageLaws.{wrote_none, and_then, in_words}
+use Rattle.report.specs.Report.{WrittenIfRoom, up_to}
 
--- a word that is the one meant
-pub put_word : (text : List ℕ) (at : ℕ) {part other last : List ℕ} {r : ℕ} → part ≡ other → at + length other ≤ length text
-    → (r ≡ end_of text at part) × (last ≡ spliced text at part) → Put text at other last r
-put_word text at {part} {other} {last} {r} e h p =
-    subst (λ (l : List ℕ). Put text at l last r) e (put_fits text at part (subst⁻¹ (λ (l : List ℕ). at + length l ≤ length text) e h) p)
+-- ---- pieces put one after another on a page
 
--- a name is a digit, a dot and a digit
-pub name_is : (p : ℕ) → p < 32 → (49 + p / 8) ∷ 46 ∷ (48 + p % 8) ∷ [] ≡ name_of p
-unfolding name_of flatten
-name_is p h =
-    let first : 49 + p / 8 ≡ 48 + (p / 8 + 1) = omega arith in
-    ap (λ (d : ℕ). d ∷ 46 ∷ (48 + p % 8) ∷ []) first
-    ∙ sym (simp (decimal_one (p / 8 + 1) (omega arith), decimal_one (p % 8) (omega arith)))
+-- of the text x, the pieces ps are left, and there is room for them
+pub record Going (p : Page) (x : List ℕ) (ps : List (List ℕ)) (q : Page) : Type 0 where
+  pub done : List ℕ
+  pub written : Written p done q
+  pub room : q.at + length (flatten ps) ≤ length q.text.now
+  pub is : done ++ flatten ps ≡ x
+
+pub begin : (p : Page) (ps : List (List ℕ)) → p.at + length (flatten ps) ≤ length p.text.now → Going p (flatten ps) ps p
+begin p ps h = record { done = []; written = wrote_none p (omega arith); room = h; is = refl }
+
+module _ {p q : Page} {x b : List ℕ} {ps : List (List ℕ)} (g : Going p x (b ∷ ps) q) where
+  pub next : {r : Page} → WrittenIfRoom q b r → Going p x ps r
+  unfolding flatten
+  next {r} f =
+      let size = length-append b (flatten ps) in
+      let w : Written q b r = f (omega (arith, g.room, size)) in
+      record {
+        done = g.done ++ b;
+        written = and_then g.written w;
+        room = omega (arith, g.room, size, w.put.to, w.size);
+        is = append_assoc g.done b (flatten ps) ∙ g.is;
+      }
+
+pub ended : {p q : Page} {x : List ℕ} → Going p x [] q → Written p x q
+unfolding flatten
+ended g = in_words g.written (sym (append-nil g.done) ∙ g.is)
 
 -- ---- a piece for each number below k
 
@@ -48,63 +60,35 @@ module _ (f : ℕ → List ℕ → List ℕ) where
       same : (q j : ℕ) → q + suc j ≡ q + j + 1
       same q j = omega arith
 
-  -- the pieces below q are put, and all below k fit
-  pub record Along (text : List ℕ) (at k : ℕ) (last : List ℕ) (to q : ℕ) : Type 0 where
-    pub within : q ≤ k
-    pub put : Put text at (up_to f q) last to
-    pub room : at + length (up_to f k) ≤ length text
+  -- the pieces below i are put, and all below k fit
+  pub record Along (p : Page) (k : ℕ) (q : Page) (i : ℕ) : Type 0 where
+    pub within : i ≤ k
+    pub written : Written p (up_to f i) q
+    pub room : p.at + length (up_to f k) ≤ length p.text.now
 
-  pub along_begins : (text : List ℕ) (at k : ℕ) → at + length (up_to f k) ≤ length text → Along text at k text at 0
+  pub along_begins : (p : Page) (k : ℕ) → p.at + length (up_to f k) ≤ length p.text.now → Along p k p 0
   unfolding up_to
-  along_begins text at k h = record { within = omega arith; put = put_none text at (omega arith); room = h }
+  along_begins p k h = record { within = omega arith; written = wrote_none p (omega arith); room = h }
 
-  module _ {text : List ℕ} {at k : ℕ} {last : List ℕ} {to q : ℕ} (a : Along text at k last to q) where
-    -- the next piece fits
-    pub along_fits : q < k → to + length (f q (up_to f q)) ≤ length last
-    along_fits h =
-        let e : q + 1 + (k - (q + 1)) ≡ k = omega arith in
-        omega (arith, a.room, a.put.to, put_length a.put, grows (q + 1) (k - (q + 1)), ap (λ (j : ℕ). length (up_to f j)) e, ap length (more q), length-append (up_to f q) (f q (up_to f q)))
-
-    pub along_on : q < k → {part v : List ℕ} {r : ℕ} → part ≡ f q (up_to f q) → Put last to part v r → Along text at k v r (q + 1)
-    along_on h {part} {v} {r} e p =
+  module _ {p q : Page} {k i : ℕ} (a : Along p k q i) where
+    pub along_on : i < k → {part : List ℕ} {r : Page} → part ≡ f i (up_to f i) → WrittenIfRoom q part r → Along p k r (i + 1)
+    along_on h {part} {r} e g =
+        let rest : i + 1 + (k - (i + 1)) ≡ k = omega arith in
+        let w : Written q part r =
+        g (omega (arith, a.room, a.written.put.to, a.written.size, ap length e, grows (i + 1) (k - (i + 1)), ap (λ (j : ℕ). length (up_to f j)) rest, ap length (more i), length-append (up_to f i) (f i (up_to f i)))) in
         record {
           within = omega arith;
-          put = subst⁻¹ (λ (l : List ℕ). Put text at l v r) (more q) (put_then a.put (subst (λ (l : List ℕ). Put last to l v r) e p));
+          written = in_words (and_then a.written (in_words w e)) (sym (more i));
           room = a.room;
         }
 
-    pub along_ends : k ≤ q → Put text at (up_to f k) last to
-    along_ends h = let e : q ≡ k = omega (arith, a.within) in subst (λ (j : ℕ). Put text at (up_to f j) last to) e a.put
+    pub along_ends : k ≤ i → Written p (up_to f k) q
+    along_ends h = let e : i ≡ k = omega (arith, a.within) in subst (λ (j : ℕ). Written p (up_to f j) q) e a.written
 
     -- something stands before the place exactly where the text before it is not empty
-    pub along_later : ltb at to ≡ ltb 0 (length (up_to f q))
-    along_later = go (dec_lt 0 (length (up_to f q)))
+    pub along_later : ltb p.at q.at ≡ ltb 0 (length (up_to f i))
+    along_later = go (dec_lt 0 (length (up_to f i)))
       where
-        go : Dec (0 < length (up_to f q)) → ltb at to ≡ ltb 0 (length (up_to f q))
-        go (yes h) = lt-ltb at to (omega (arith, a.put.to)) ∙ sym (lt-ltb 0 (length (up_to f q)) h)
-        go (no h) = le-ltb at to (omega (arith, a.put.to)) ∙ sym (le-ltb 0 (length (up_to f q)) (omega arith))
-
--- ---- a member, with or without a comma
-
-later_room : (text : List ℕ) (at q : ℕ) (b : Bool) → b ≡ true → at + length (member_of b q) ≤ length text
-    → at + length (flatten (said "," ∷ name_of q ∷ [])) ≤ length text
-unfolding member_of
-later_room text at q b e h = simp e at h
-
--- after the comma, the name fits
-pub later_going : {text last : List ℕ} {at r : ℕ} (q : ℕ) (b : Bool) → b ≡ true → at + length (member_of b q) ≤ length text
-    → (r ≡ end_of text at (said ",")) × (last ≡ spliced text at (said ","))
-    → Going text at (flatten (said "," ∷ name_of q ∷ [])) (name_of q ∷ []) last r
-later_going {text} {last} {at} {r} q b e h p = next_by (begin text at (said "," ∷ name_of q ∷ []) (later_room text at q b e h)) p
-
-pub member_later : {text last : List ℕ} {at r : ℕ} (q : ℕ) (b : Bool) → b ≡ true → Put text at (flatten (said "," ∷ name_of q ∷ [])) last r → Put text at (member_of b q) last r
-unfolding member_of
-member_later q b e p = simp e p
-
-pub member_first : {text last : List ℕ} {at r : ℕ} (q : ℕ) (b : Bool) → b ≡ false → Put text at (name_of q) last r → Put text at (member_of b q) last r
-unfolding member_of
-member_first q b e p = simp e p
-
-pub first_room : (text : List ℕ) (at q : ℕ) (b : Bool) → b ≡ false → at + length (member_of b q) ≤ length text → at + length (name_of q) ≤ length text
-unfolding member_of
-first_room text at q b e h = simp e at h
+        go : Dec (0 < length (up_to f i)) → ltb p.at q.at ≡ ltb 0 (length (up_to f i))
+        go (yes h) = lt-ltb p.at q.at (omega (arith, a.written.put.to)) ∙ sym (lt-ltb 0 (length (up_to f i)) h)
+        go (no h) = le-ltb p.at q.at (omega (arith, a.written.put.to)) ∙ sym (le-ltb 0 (length (up_to f i)) (omega arith))

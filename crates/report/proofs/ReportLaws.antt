@@ -11,6 +11,10 @@ use Rattle.sheet.specs.Record.{parts_of}
 use Rattle.sheet.specs.Grounds.{sheet_ground, sheet_of}
 use Rattle.sheet.specs.Paths.{cyclic}
 use Rattle.sheet.proofs.GroundLaws.{passes, cycle_decides}
+use Rattle.std.proofs.Common.{Result, Err}
+use Rattle.refusal.specs.Refusals.{clear}
+use Rattle.refusal.specs.declared.Refusal.{Refusal}
+use Rattle.refusal.specs.declared.Refusal.TheVariants.{FewWords, Cycle}
 use Rattle.judge.specs.declared.Verdict.{Verdict}
 use Rattle.judge.specs.Outcome.{Outcome}
 use Rattle.judge.specs.Outcome.Outcome.{short, unread, judged}
@@ -35,19 +39,22 @@ one_report b w₀ w w' t₀ t t' r r' (told h v o e f) (told i v' o' k l) =
     record { words = s.words; texts = f ∙ ap (λ (y : List ℕ). y ++ drop r t₀) x ∙ ap (λ (m : ℕ). report_text (sheet_of b) v' ++ drop m t₀) n ∙ sym l; lengths = n }
 
 -- with words for any sheet, none is refused for want of them
-enough : (b w₀ w : List ℕ) (v : Verdict) → 4096 ≤ length w₀ → Outcome b w₀ w v → v.refusal ≢ 20
+enough : (b w₀ w : List ℕ) (v : Result Verdict Refusal) → 4096 ≤ length w₀ → Outcome b w₀ w v → v ≢ Err FewWords
 enough b w₀ w v h (short l x e) z = omega arith
-enough b w₀ w v h (unread l n x e) z = go (cyclic (parts_of b)) (sym (cycle_decides (passes 20 (λ m p q. omega arith) b read)) ∙ read)
+enough b w₀ w v h (unread l why n x e) z = go (cyclic (parts_of b)) (sym (cycle_decides (passes (Err FewWords) (λ m p q. omega arith) b read)) ∙ read)
   where
-    read : sheet_ground b ≡ 20
-    read = sym (ap (λ (y : Verdict). y.refusal) e) ∙ z
+    same : why ≡ FewWords
+    same = cc
 
-    go : (c : Bool) → cond {A = ℕ} c 29 0 ≡ 20 → ⊥
-    go true p = omega arith
-    go false p = omega arith
-enough b w₀ w v h (judged l n (crowded m c e)) z = omega (arith, ap (λ (y : Verdict). y.refusal) e)
-enough b w₀ w v h (judged l n (clashing m x c e)) z = omega (arith, ap (λ (y : Verdict). y.refusal) e)
-enough b w₀ w v h (judged l n (fair m k q a)) z = omega (arith, a.accepted)
+    read : sheet_ground b ≡ Err FewWords
+    read = n ∙ ap Err same
+
+    go : (c : Bool) → cond c (Err Cycle) clear ≡ Err FewWords → ⊥
+    go true p = cc
+    go false p = cc
+enough b w₀ w v h (judged l n (crowded m c e)) z = cc
+enough b w₀ w v h (judged l n (clashing m x c e)) z = cc
+enough b w₀ w v h (judged l n (fair m k u e q a)) z = cc
 
 pub whole : {b w₀ w t₀ t : List ℕ} {r : ℕ} → 4096 ≤ length w₀ → longest ≤ length t₀ → Reported b w₀ w t₀ t r → ToldWhole b w₀ w t₀ t r
 whole h i (cramped l e f g) = absurd (omega arith)

@@ -1,14 +1,22 @@
 -- The report on a sheet (01, "The sheet program reads a sheet"): every byte that is printed.
 -- Assumes nothing.
-use Rattle.std.specs.Prelude.{ℕ, zero, suc, ◌+◌, ◌/◌, ◌%◌, ◌≤◌, ◌<◌, Bool, cond, ◌≡◌, eqb, ltb, ◌≢◌, length, get_or, drop}
+use Rattle.std.specs.Prelude.{ℕ, zero, suc, ◌+◌, ◌/◌, ◌%◌, ◌≤◌, ◌<◌, Bool, cond, ◌≡◌, eqb, ltb, ◌≢◌, length, get_or, drop, Option, Some, None, Result, Ok, Err}
+use Rattle.refusal.specs.Refusals.{refusal_number}
+use Rattle.refusal.specs.declared.Refusal.{Refusal}
+use Rattle.refusal.specs.declared.Refusal.TheVariants.{FewWords}
 use mathlib.Core.List.{List, [], ◌∷◌, ◌++◌, flatten}
+use Rattle.text.specs.Page.{Written}
+use Rattle.text.specs.declared.Page.{Page}
 use Rattle.text.specs.Said.{said}
 use Rattle.text.specs.Decimal.{decimal}
 use Rattle.sets.specs.Sets.{bit}
 use Rattle.sheet.specs.Grounds.{sheet_of}
 use Rattle.sheet.specs.declared.Sheet.{Sheet}
-use Rattle.judge.specs.Facts.{stands, mark_of, no_local}
+use Rattle.judge.specs.Facts.{stands, mark_of, no_local, condition_number}
 use Rattle.judge.specs.Outcome.{Outcome}
+use Rattle.judge.specs.declared.Decision.{Decision}
+use Rattle.judge.specs.declared.Decision.TheVariants.{Unreached, Abort, Commit, Blocked}
+use Rattle.judge.specs.declared.Witness.{Witness}
 use Rattle.judge.specs.declared.Local.{Local}
 use Rattle.judge.specs.declared.Verdict.{Verdict}
 
@@ -31,9 +39,12 @@ mark_word mark = cond (eqb mark 0) (said " w ") (cond (eqb mark 1) (said " a ") 
 unfoldable pub yes_word : Bool → List ℕ
 yes_word b = cond b (said "y ") (said "n ")
 
--- "decision", at the end of a line: 0 unreached, 1 abort, 2 commit, 3 blocked
-unfoldable pub decision_word : ℕ → List ℕ
-decision_word d = cond (eqb d 0) (said "-\n") (cond (eqb d 1) (said "abort\n") (cond (eqb d 2) (said "commit\n") (said "blocked\n")))
+-- "decision", at the end of a line
+unfoldable pub decision_word : Decision → List ℕ
+decision_word Unreached = said "-\n"
+decision_word Abort = said "abort\n"
+decision_word Commit = said "commit\n"
+decision_word Blocked = said "blocked\n"
 
 -- a member of a set, after a comma where others stand before it
 unfoldable pub member_of : Bool → ℕ → List ℕ
@@ -76,13 +87,19 @@ unfoldable pub blocking_line : ℕ → ℕ → ℕ → List ℕ
 blocking_line site state condition =
     flatten (said "verdict blocking at " ∷ decimal site ∷ said "." ∷ decimal state ∷ said " condition " ∷ decimal condition ∷ said "\n" ∷ [])
 
+-- what blocks, where something does
+unfoldable pub blocking_or_none : Option Witness → List ℕ
+blocking_or_none None = said "verdict nonblocking\n"
+blocking_or_none (Some w) = blocking_line w.site w.state (condition_number w.condition)
+
 -- "A nonblocking sheet prints `verdict nonblocking`"; any other, what blocks it
-unfoldable pub ruling_line : Verdict → List ℕ
-ruling_line v = cond v.nonblocking (said "verdict nonblocking\n") (blocking_line v.site v.state v.condition)
+abbrev pub ruling_line : Verdict → List ℕ
+ruling_line v = blocking_or_none v.blocking
 
 -- the last line: the verdict's tolerance; where none is stated, "the last line reads `tolerance not stated`" (02, Ask 2)
-unfoldable pub tolerance_line : ℕ → List ℕ
-tolerance_line t = cond (eqb t 0) (said "tolerance not stated\n") (flatten (said "tolerance " ∷ decimal t ∷ said "\n" ∷ []))
+unfoldable pub tolerance_line : Option ℕ → List ℕ
+tolerance_line None = said "tolerance not stated\n"
+tolerance_line (Some t) = flatten (said "tolerance " ∷ decimal t ∷ said "\n" ∷ [])
 
 -- "`refused N`", N the ground
 unfoldable pub refused_line : ℕ → List ℕ
@@ -90,14 +107,19 @@ refused_line why = flatten (said "refused " ∷ decimal why ∷ said "\n" ∷ []
 
 -- ---- the whole
 
+-- the part is written, where there is room for it
+abbrev pub WrittenIfRoom : Page → List ℕ → Page → Type 0
+WrittenIfRoom before part after = before.at + length part ≤ length before.text.now → Written before part after
+
 -- an accepted sheet: the first line, a line for each state, the verdict, the tolerance
 unfoldable pub accepted_text : Sheet → Verdict → List ℕ
 accepted_text s v =
     flatten (head_line v.sites v.states ∷ state_lines s v.locals ∷ ruling_line v ∷ tolerance_line v.tolerance ∷ [])
 
--- the text for any verdict: "a refused one `refused N` only"
-unfoldable pub report_text : Sheet → Verdict → List ℕ
-report_text s v = cond (eqb v.refusal 0) (accepted_text s v) (refused_line v.refusal)
+-- the text for any answer of the judge: "a refused one `refused N` only"
+unfoldable pub report_text : Sheet → Result Verdict Refusal → List ℕ
+report_text s (Ok v) = accepted_text s v
+report_text s (Err why) = refused_line (refusal_number why)
 
 -- the longest text has 3,731 bytes: a first line of at most 26, for each of 32 states one of at most 114 (24 states of other sites in its
 -- set), a verdict of at most 36 and a tolerance of at most 21
@@ -108,14 +130,14 @@ longest = 3731
 -- judged, its text stands at the start, the rest of the room is unchanged, and the answer is the length
 pub data Reported (bytes w₀ w t₀ t : List ℕ) (r : ℕ) : Type 0 where
   cramped : length t₀ < longest → w ≡ w₀ → t ≡ t₀ → r ≡ 0 → Reported bytes w₀ w t₀ t r
-  told : longest ≤ length t₀ → (v : Verdict) → Outcome bytes w₀ w v → r ≡ length (report_text (sheet_of bytes) v)
+  told : longest ≤ length t₀ → (v : Result Verdict Refusal) → Outcome bytes w₀ w v → r ≡ length (report_text (sheet_of bytes) v)
       → t ≡ report_text (sheet_of bytes) v ++ drop r t₀ → Reported bytes w₀ w t₀ t r
 
 -- with room for any report and words for any sheet: the sheet is judged, and never refused for want of words; its whole text stands at the start,
 -- the rest of the room is unchanged, and the answer is the length
 pub record ToldWhole (bytes w₀ w t₀ t : List ℕ) (r : ℕ) : Type 0 where
-  pub verdict : Verdict
+  pub verdict : Result Verdict Refusal
   pub outcome : Outcome bytes w₀ w verdict
-  pub worded : verdict.refusal ≢ 20
+  pub worded : verdict ≢ Err FewWords
   pub size : r ≡ length (report_text (sheet_of bytes) verdict)
   pub text : t ≡ report_text (sheet_of bytes) verdict ++ drop r t₀

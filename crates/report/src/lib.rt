@@ -10,18 +10,18 @@ mod line;
 pub const LONGEST: usize = 3731;
 
 // Judges the sheet in `bytes` and writes the report on it at the start of `out`; answers its length. Where `out` has less room than the longest
-// text, nothing is touched and the answer is 0.
+// text, nothing is touched and the answer is 0, and no Err: it is public, could not fail, and C gets it.
 pub fn report(bytes: &[u8], words: &mut [u64], out: &mut [u8]) -> usize
     ensures { Reported bytes.now words.old words.new out.old out.new result }
 {
     if out.len() < LONGEST {
         return 0;
     }
-    let verdict = judge::judge(bytes, words);
-    let ground = verdict.refusal;
-    if ground != 0 {
-        return line::put_refused(out, ground);
+    match judge::judge(bytes, words) {
+        Ok(verdict) => {
+            let sheet = sheet::parts(bytes);
+            line::put_accepted(out, &sheet, &verdict)
+        }
+        Err(why) => line::put_refused(out, u8::from(why)),
     }
-    let sheet = sheet::parts(bytes);
-    line::put_accepted(out, sheet, verdict)
 }

@@ -1,7 +1,10 @@
--- `put_name` meets its contract: two digits and a dot.
+-- `put_name` meets its contract: a number, a dot and a number.
 -- Assumes nothing.
-use Rattle.report.proofs.Putting.{put_word, name_is}
+use Rattle.text.proofs.PageLaws.{wrote}
+use Rattle.report.specs.Report.{name_of}
+use Rattle.report.proofs.Putting.{begin, next, ended}
 use Rattle.report.proofs.line.put_name.Goals as goal
 
 pub returns : goal.returns
-returns c = put_word _ _ (name_is c.args.p c.requires.0) c.requires.1 c.put.ensures
+unfolding name_of
+returns c = λ h. ended (next (next (next (begin _ _ h) (wrote c.put_decimal.ensures)) (wrote c.put.ensures)) (wrote c.put_decimal-2.ensures))
