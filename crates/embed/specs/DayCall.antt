@@ -1,6 +1,8 @@
 -- `fj_run_journal`: what it returns, and what it leaves of the slices.
 -- Assumes nothing.
-use Rattle.std.specs.Prelude.{ℕ, ◌/◌, ◌%◌, ◌^◌, cond, List, [], ◌∷◌, ◌++◌, ltb, length, drop, replicate}
+use Rattle.std.specs.Prelude.{ℕ, ◌/◌, ◌%◌, ◌^◌, cond, List, [], ◌∷◌, ◌++◌, ltb, length, drop, replicate, Option, Some, None}
+use Rattle.refusal.specs.declared.Refusal.{Refusal}
+use Rattle.refusal.specs.Refusals.{refusal_number}
 use Rattle.day.specs.declared.Day.{Day}
 use Rattle.day.specs.declared.Stepped.{Stepped}
 use Rattle.day.specs.Day.{day_of}
@@ -28,9 +30,14 @@ day_answer = 26
 unfoldable pub day_bytes : Day → List ℕ
 day_bytes d = eight_of d.accepted ++ (eight_of d.written ++ (eight_of d.place ++ (d.awaited ∷ d.lowest ∷ [])))
 
+-- the number of the refusal that ended a day, 0 for none
+abbrev pub ended_number : Option Refusal → ℕ
+ended_number None = 0
+ended_number (Some why) = refusal_number why
+
 -- the refusal, the run as after the accepted events, and the answer, which is written with a refusal too
 abbrev pub day_leaves : Stepped → List ℕ → LeftBoth
-day_leaves x room = leaves_both x.day.refusal (run_bytes x.run) (day_bytes x.day ++ drop day_answer room)
+day_leaves x room = leaves_both (ended_number x.day.refusal) (run_bytes x.run) (day_bytes x.day ++ drop day_answer room)
 
 -- 15 comes first, with nothing touched; then 1 for bytes that are no run, with zeros; then the journal
 unfoldable pub day_call : List ℕ → List ℕ → List ℕ → LeftBoth

@@ -1,131 +1,103 @@
 // Protocol sheets on bytes: the judge's verdict, the report, and a sheet's parts, read and written.
 
-ghost use Rattle.std.specs.Prelude.{◌≡◌, ◌+◌, ◌≤◌, ◌%◌, length, drop, replicate};
-ghost use mathlib.Core.List.{◌++◌, flat_map};
-ghost use Rattle.text.specs.Text.{Put};
+ghost use Rattle.std.specs.Prelude.{◌≡◌, ◌+◌, ◌++◌, ◌≤◌, length, map, drop};
+ghost use Rattle.text.specs.Page.{Written};
 ghost use Rattle.report.specs.Report.{Reported};
 ghost use Rattle.embed.specs.Bytes.{leaves};
-ghost use Rattle.embed.specs.SheetCalls.{flag_of, flags_of, local_bytes, head_bytes, verdict_bytes, JudgeCall, parts_call, sheet_write_call};
+ghost use Rattle.embed.specs.SheetCalls.{flags_of, decision_byte, local_bytes, witness_bytes, head_bytes, verdict_bytes, JudgeCall, parts_call, sheet_write_call};
 
-use judge::{Local, Verdict};
+use judge::{Decision, Local, Verdict, Witness};
+use refusal::Refusal;
+use text::Page;
 
-fn low_byte(x: u64) -> u8
-    ensures { result ≡ x % 256 }
-{
-    (x % 256) as u8
-}
+// A verdict's bytes.
+const VERDICT: usize = 206;
 
-fn flag(b: bool) -> u8
-    ensures { result ≡ flag_of b }
-{
-    if b { 1 } else { 0 }
-}
-
+// Bit 0 says reached, bit 1 committable: C's byte.
 fn flags(reached: bool, committable: bool) -> u8
     ensures { result ≡ flags_of reached committable }
 {
-    if reached {
-        if committable {
-            return 3;
-        }
-        return 1;
-    }
-    if committable {
-        return 2;
-    }
-    0
+    u8::from(reached) + 2 * u8::from(committable)
 }
 
-// Puts a local state's bytes from a place on, and says where they end.
-fn put_local(out: &mut [u8], at: usize, local: Local) -> usize
-    requires { at + 6 ≤ length out.old }
-    ensures { Put out.old at (local_bytes local) out.new result }
+// 0 unreached, 1 abort, 2 commit, 3 blocked.
+fn decision_byte(decision: Decision) -> u8
+    ensures { result ≡ decision_byte decision }
 {
-    let set = local.concurrent as u64;
-    let row = [
+    decision as u8
+}
+
+// A local state's bytes.
+#[tactic(auto, unfolding(crate::specs::SheetCalls::local_bytes))]
+fn row_of(local: Local) -> [u8; 6]
+    ensures { result ≡ local_bytes local }
+{
+    let [first, second, third, last] = local.concurrent.to_be_bytes();
+    [
         flags(local.reached, local.committable),
-        local.decision,
-        low_byte(set / 16777216),
-        low_byte(set / 65536),
-        low_byte(set / 256),
-        low_byte(set),
-    ];
-    text::put(out, at, &row)
+        decision_byte(local.decision),
+        first,
+        second,
+        third,
+        last,
+    ]
 }
 
-// Puts the local states' bytes from a place on, one after the other, and says where they end.
-fn put_locals(out: &mut [u8], at: usize, locals: [Local; 32]) -> usize
-    requires { at + 192 ≤ length out.old }
-    ensures { Put out.old at (flat_map local_bytes locals) out.new result }
+fn rows_of(locals: [Local; 32]) -> [[u8; 6]; 32]
+    ensures { result ≡ map local_bytes locals }
 {
-    let mut to = at;
-    for i in 0..32 {
-        let local = locals[i];
-        to = put_local(out, to, local);
+    locals.map(row_of)
+}
+
+// Whether a sheet is nonblocking, and where it blocks.
+fn witness_bytes(blocking: Option<Witness>) -> [u8; 4]
+    ensures { result ≡ witness_bytes blocking }
+{
+    match blocking {
+        None => [1, 0, 0, 0],
+        Some(witness) => [0, witness.site, witness.state, u8::from(witness.condition)],
     }
-    to
 }
 
-// Puts what a verdict says of the whole sheet at the front, and says where it ends.
-fn put_head(out: &mut [u8], verdict: Verdict) -> usize
-    requires { 14 ≤ length out.old }
-    ensures { Put out.old 0 (head_bytes verdict) out.new result }
+// What a verdict says of the whole sheet.
+fn put_head(page: &mut Page, verdict: &Verdict)
+    requires { page.old.at + 14 ≤ length page.old.text.now }
+    ensures { Written page.old (head_bytes verdict.now) page.new }
 {
-    let states = verdict.states as u64;
-    let head = [
-        verdict.sites,
-        low_byte(states / 256),
-        low_byte(states),
-        flag(verdict.nonblocking),
-        verdict.site,
-        verdict.state,
-        verdict.condition,
-        verdict.tolerance,
-        0,
-        0,
-        0,
-        0,
-        0,
-        0,
-    ];
-    text::put(out, 0, &head)
+    let [.., high, low] = verdict.states.to_be_bytes();
+    page.put(&[verdict.sites, high, low]);
+    page.put(&witness_bytes(verdict.blocking));
+    page.put(&[verdict.tolerance.unwrap_or(0), 0, 0, 0, 0, 0, 0]);
 }
 
-fn put_verdict(out: &mut [u8], verdict: Verdict)
+fn put_verdict(out: &mut [u8], verdict: &Verdict)
     requires { 206 ≤ length out.old }
-    ensures { out.new ≡ verdict_bytes verdict ++ drop 206 out.old }
+    ensures { out.new ≡ verdict_bytes verdict.now ++ drop 206 out.old }
 {
-    let locals = verdict.locals;
-    let at = put_head(out, verdict);
-    put_locals(out, at, locals);
+    let mut page = Page { text: out, at: 0 };
+    put_head(&mut page, verdict);
+    let rows = rows_of(verdict.locals);
+    page.put(rows.as_flattened());
 }
 
-// What a refusal leaves of the room: zeros. It is there for speed: `put_verdict` would write the same, but 32 empty local states one by one
-// instead of 206 zeros at once.
-fn put_zeros(out: &mut [u8])
-    requires { 206 ≤ length out.old }
-    ensures { out.new ≡ replicate 206 0 ++ drop 206 out.old }
-{
-    let zeros = [0u8; 206];
-    text::put(out, 0, &zeros);
-}
-
-// The judge's verdict on a sheet, and the reachable states in the lent words. Returns 0 or the refusal.
+// The judge's verdict on a sheet, and the reachable states in the lent words; a refusal leaves zeros. Returns 0 or the refusal.
 #[unsafe(no_mangle)]
 pub extern "C" fn fj_sheet_judge(sheet: &[u8], words: &mut [u64], out: &mut [u8]) -> u8
     ensures { JudgeCall sheet.now words.old words.new out.old out.new result }
 {
-    if out.len() < 206 {
-        return 15;
+    if out.len() < VERDICT {
+        return u8::from(Refusal::NoRoom);
     }
-    let verdict = judge::judge(sheet, words);
-    let ground = verdict.refusal;
-    if ground != 0 {
-        put_zeros(out);
-        return ground;
+    match judge::judge(sheet, words) {
+        Ok(verdict) => {
+            put_verdict(out, &verdict);
+            0
+        }
+        Err(why) => {
+            text::put(out, 0, &[0u8; VERDICT]);
+            u8::from(why)
+        }
     }
-    put_verdict(out, verdict);
-    0
 }
 
 // The report on a sheet, with the words as the judge leaves them. Returns the text's length, 0 where the room is too small.
@@ -142,15 +114,16 @@ pub extern "C" fn fj_sheet_parts(bytes: &[u8], parts: &mut [u8]) -> u8
     ensures { leaves result parts.new ≡ parts_call bytes.now parts.old }
 {
     if parts.len() < sheet::PARTS {
-        return 15;
+        return u8::from(Refusal::NoRoom);
     }
-    let ground = sheet::ground(bytes);
-    if ground != 0 {
-        return ground;
+    match sheet::ground(bytes) {
+        Ok(()) => {
+            let read = sheet::parts(bytes);
+            sheet::put_parts(read, parts);
+            0
+        }
+        Err(why) => u8::from(why),
     }
-    let read = sheet::parts(bytes);
-    sheet::put_parts(read, parts);
-    0
 }
 
 // The record of a sheet's parts, at the front of the room. Returns 0 or the refusal.
@@ -159,6 +132,8 @@ pub extern "C" fn fj_sheet_write(parts: &[u8], room: &mut [u8]) -> u8
     ensures { leaves result room.new ≡ sheet_write_call parts.now room.old }
 {
     let told = sheet::from_parts(parts);
-    let written = sheet::write(told, room);
-    written.refusal
+    match sheet::write(told, room) {
+        Ok(_) => 0,
+        Err(why) => u8::from(why),
+    }
 }
