@@ -6,7 +6,7 @@ use mathlib.Core.Logic.{◌≢◌, ◌⊎◌, inl, inr, ⊎_elim}
 use native.Mathlib.Decide.{ℕ_discrete}
 use native.Mathlib.Omega.{arith}
 use Rattle.site.specs.declared.State.{State}
-use Rattle.promise.proofs.Classes.{Kind, No, Ack, IsQ, IsW, IsA, IsC, PC, QW, QWA, Prepares, IsCommit, IsAbort, Stands, Relies, First, Leads, Onward, onward_stands, onward_relies, qw_not_a, qwa_not_c, pc_not_a, pc_not_qw, q_in_qw, a_in_qwa, c_in_pc}
+use Rattle.promise.proofs.Classes.{Kind, Ack, IsQ, IsW, IsA, IsC, PC, QW, QWA, Prepares, IsCommit, IsAbort, Stands, Relies, First, Leads, Onward, onward_stands, onward_relies, qw_not_a, qwa_not_c, pc_not_a, q_in_qw, a_in_qwa, c_in_pc}
 use Rattle.promise.proofs.View.{View, Evidence, seen, told, EP, EA, EC, Open, Lead, Muted, Mute, MayPrepare, Decided, MayAbort, MayCommit, Safe, nobody, Inv}
 use Rattle.promise.proofs.Less.{Votes}
 

@@ -8,6 +8,10 @@ use mathlib.Core.Logic.{◌≢◌, ◌⊎◌}
 use native.Mathlib.Omega.{arith}
 use native.Mathlib.Nat.{add-zero, zero-add}
 use lib.ListN.{length}
+use Rattle.std.specs.Prelude.{Option, Some}
+use Rattle.refusal.specs.declared.Refusal.{Refusal}
+use Rattle.refusal.specs.declared.Refusal.TheVariants.{Conflict}
+use Rattle.refusal.specs.Refusals.{refusal_number}
 use Rattle.site.specs.declared.State.TheVariants.{A, C}
 use Rattle.site.specs.declared.Outcome.TheVariants.{Refused}
 use Rattle.run.specs.declared.Run.{Run}
@@ -18,7 +22,7 @@ use Rattle.run.specs.After.{Tale, accepted_by, onward, told, opening, after}
 use Rattle.run.proofs.GoodRuns.{accepted_one}
 use Rattle.day.specs.Day.{day_of}
 use Rattle.journal.proofs.JournalLaws.{journal_of, AllTold}
-use Rattle.day.specs.OneByOne.{AllAccepted, run_after, written_by, Ends, AsCalls}
+use Rattle.day.specs.OneByOne.{AllAccepted, run_after, written_by, Ends}
 use Rattle.day.specs.OneByOne.AllAccepted.{none, next}
 use Rattle.day.specs.OneByOne.Ends.{over, unread, refused}
 use Rattle.day.proofs.AsCalls.{as_calls}
@@ -121,10 +125,15 @@ module _ (n : ℕ) (es : List Event) (t : AllTold es) (c : (after n es).accepted
   fresh_accepted = handed_accepted (fresh_of n).run es t all_from_fresh
 
 -- a journal ends with 6 only where an event is refused with it
-no_conflict : {r : Run} {l : List ℕ} {g : ℕ} → Ends r l g → ((e : Event) → (event_of r e).outcome ≢ Refused 6) → g ≢ 6
-no_conflict (over z e) n q = omega arith
-no_conflict {l = l} {g = g} (unread i p) n q = omega (arith, bad_ground l g p)
-no_conflict {r} (refused c p e) n q = n c.event (e ∙ ap Refused q)
+no_conflict : {r : Run} {l : List ℕ} {g : Option Refusal} → Ends r l g → ((e : Event) → (event_of r e).outcome ≢ Refused Conflict) → g ≢ Some Conflict
+no_conflict (over z e) n q = cc
+no_conflict {l = l} (unread why e i p) n q =
+    let w : why ≡ Conflict = cc in
+    let h : 10 ≤ refusal_number Conflict = rw w at (bad_ground l why p) in
+    omega arith
+no_conflict (refused why e c p o) n q =
+    let w : why ≡ Conflict = cc in
+    n c.event (o ∙ ap Refused w)
 
 module _ (n : ℕ) (least : 2 ≤ n) (most : n ≤ 8) where
   abbrev of_events : Promise n
@@ -171,8 +180,8 @@ module _ (n : ℕ) (least : 2 ≤ n) (most : n ≤ 8) where
     bound_of : k ≤ 5 * (n - 1) + 3 * (n - 1) * (n - 2) / 2 + (n + 1) ^ 2
     bound_of = subst (λ (m : ℕ). m ≤ 5 * (n - 1) + 3 * (n - 1) * (n - 2) / 2 + (n + 1) ^ 2) (sym tale.count) (of_events.event_bound events)
 
-    conflict_of : (l : List ℕ) → (day_of r l).day.refusal ≢ 6
-    conflict_of l = no_conflict (as_calls r l).ends (subst (λ (w : Run). (e : Event) → (event_of w e).outcome ≢ Refused 6) (sym (later l)) (of_events.never_conflict (events ++ (as_calls r l).events)))
+    conflict_of : (l : List ℕ) → (day_of r l).day.refusal ≢ Some Conflict
+    conflict_of l = no_conflict (as_calls r l).ends (subst (λ (w : Run). (e : Event) → (event_of w e).outcome ≢ Refused Conflict) (sym (later l)) (of_events.never_conflict (events ++ (as_calls r l).events)))
 
     exact_of : k ≤ 2 * n ^ 2 + 3 * n - 1
     exact_of = subst (λ (m : ℕ). m ≤ 2 * n ^ 2 + 3 * n - 1) (sym tale.count) (of_events.exact_bound.0 events)

@@ -11,6 +11,9 @@ use lib.Dec.{eqb}
 use borrow.Author.Tests.{eqb-true, le-leb}
 use Rattle.sets.proofs.Truths.{and_l, and_r}
 use Rattle.sets.specs.Sets.{bit, is_site, has, weight_of, union, both, minus, with_site, without, subset, all_of, others_of, below_of, count_of}
+use Rattle.std.specs.Prelude.{Result, Ok, Err, is_ok}
+use Rattle.refusal.specs.declared.Refusal.{Refusal}
+use Rattle.refusal.specs.Refusals.{clear}
 use Rattle.site.specs.declared.State.{State}
 use Rattle.site.specs.declared.State.TheVariants.{Q, W, P, A, C}
 use Rattle.site.specs.declared.Vote.TheVariants.{Yes}
@@ -138,17 +141,20 @@ longest_accepts n p q = ap (λ (t : Tale). t.accepted) (briskly_after n (longest
 
 -- ---- as journals
 
+told_clear : (m : Result Event Refusal) → is_ok m ≡ true → ground_made m ≡ clear
+told_clear (Ok e) h = refl
+told_clear (Err why) h = absurd (false≢true h)
+
 -- no ground stands against their records
 told_all : List Event → Bool
 told_all [] = true
-told_all (e ∷ es) = eqb (ground_made (event_in_record (fields_from e))) 0 && told_all es
+told_all (e ∷ es) = is_ok (event_in_record (fields_from e)) && told_all es
 
 all_told : (es : List Event) → told_all es ≡ true → AllTold es
 unfolding told_all
 all_told [] h = tt
 all_told (e ∷ es) h =
-    let a : eqb (ground_made (event_in_record (fields_from e))) 0 ≡ true = and_l (eqb (ground_made (event_in_record (fields_from e))) 0) (told_all es) h in
-    (eqb-true _ _ a, all_told es (and_r (eqb (ground_made (event_in_record (fields_from e))) 0) (told_all es) h))
+    (told_clear _ (and_l (is_ok (event_in_record (fields_from e))) (told_all es) h), all_told es (and_r (is_ok (event_in_record (fields_from e))) (told_all es) h))
 
 pub posting_told : (n : ℕ) → 2 ≤ n → n ≤ 8 → AllTold (posting n)
 unfolding turns preparing posting told_all is_known kind_from may_name names_site takes_vote is_vote used_or0 step_ranges in_ranges step_from made_of told_by event_in_record

@@ -5,10 +5,8 @@ use mathlib.Core.List.{List, [], ◌∷◌}
 use mathlib.Core.Path.{◌≡◌, refl, sym, ap, subst, ◌∙◌}
 use mathlib.Core.Logic.{◌⊎◌, inl, inr, ⊎_elim}
 use native.Mathlib.Omega.{arith}
-use lib.ListN.{get_or, replicate}
-use borrow.Author.Tests.{le-leb}
 use Rattle.site.specs.declared.State.{State}
-use Rattle.site.specs.declared.State.TheVariants.{Q, A}
+use Rattle.site.specs.declared.State.TheVariants.{Q}
 use Rattle.site.specs.declared.Site.{Site as Record}
 use Rattle.run.specs.declared.Run.{Run}
 use Rattle.run.specs.declared.Event.{Event}

@@ -10,6 +10,9 @@ use lib.Dec.{eqb}
 use lib.ListN.{length, length-set, length-map}
 use borrow.Author.Tests.{ne_eqb}
 use Rattle.sets.specs.Sets.{has, both, minus, with_site}
+use Rattle.std.specs.Prelude.{Err}
+use Rattle.refusal.specs.declared.Refusal.{Refusal}
+use Rattle.refusal.specs.declared.Refusal.TheVariants.{Conflict}
 use Rattle.site.specs.declared.Vote.TheVariants as vote
 use Rattle.site.specs.declared.Outcome.{Outcome}
 use Rattle.site.specs.declared.Outcome.TheVariants.{Taken, Passed, Refused}
@@ -17,14 +20,14 @@ use Rattle.site.specs.declared.Step.{Step}
 use Rattle.site.specs.declared.Step.TheVariants as step_is
 use Rattle.site.specs.declared.Done.{Done}
 use Rattle.site.specs.Site.{names_of}
-use Rattle.site.specs.Step.{rule_of, done_of, answered, step_of, number_of}
+use Rattle.site.specs.Step.{rule_of, done_of, answered, step_of}
 use Rattle.run.specs.declared.Run.{Run}
 use Rattle.run.specs.declared.Event.{Event}
 use Rattle.run.specs.declared.Event.TheVariants.{Act, Stop, Cut}
 use Rattle.run.specs.declared.Ran.{Ran}
-use Rattle.run.specs.Run.{site_at, with_record, taken_out, sent_by, stopped_at, taken_in}
+use Rattle.run.specs.Run.{site_at, taken_out, sent_by, stopped_at, taken_in}
 use Rattle.run.specs.Sound.{Sound}
-use Rattle.run.specs.Event.{is_there, got_by, got_from, whole_step, applied, event_of}
+use Rattle.run.specs.Event.{got_by, got_from, whole_step, applied, event_of}
 use Rattle.run.specs.After.{accepted_by}
 use Rattle.promise.proofs.SetsMembers.{In, in_none, minus_in, both_l, both_r}
 use Rattle.run.proofs.Views.{Shape}
@@ -32,7 +35,7 @@ use Rattle.promise.proofs.RunViews.{record_in, Placed, placed, replaced, others,
 use Rattle.run.proofs.SoundLaws.{sound_parts}
 use Rattle.run.proofs.Account.{Able, Acting, Accepted, Why, Denied, Refuses, fate, happens, then_accepted, actor_most}
 use Rattle.run.proofs.Account.Accepted.{acts, stops, cuts}
-use Rattle.run.proofs.Account.Why.{fine, misnamed, stopped, missing, own}
+use Rattle.run.proofs.Account.Why.{misnamed, stopped, missing, own}
 use Rattle.run.proofs.Account.Denied.{unsound, step, not_one, again}
 use Rattle.run.proofs.Applied.{halt_applied, none_taken}
 use Rattle.run.proofs.RunLaws.{cut_accepted}
@@ -328,29 +331,28 @@ module _ (w : ℕ → Type 0) (r : Run) (h : Upheld w r) where
       go (stops {s} n) = stop_held s n
 
   -- a step that a site refuses is no conflict
-  peaceful : {s g : ℕ} {t : Step} → Why r s t g → g ≡ 6 → ⊥
+  peaceful : {s : ℕ} {g : Refusal} {t : Step} → Why r s t (Err g) → g ≡ Conflict → ⊥
   unfolding answered
-  peaceful (fine a) q = omega arith
-  peaceful (misnamed e) q = omega arith
-  peaceful (stopped e) q = omega arith
-  peaceful (missing a e) q = omega arith
+  peaceful (misnamed e) q = cc
+  peaceful (stopped e) q = cc
+  peaceful (missing a e) q = cc
   peaceful {s} {t = t} (own a m i o) q =
       subst (λ (o : Outcome). Sure o (Stepped w r (sound_parts r h.shape a.sound) h.inv s (running a) t (rule_of (site_at r s) t)))
       (sym (ap (λ b. b.outcome) (by_rule r (sound_parts r h.shape a.sound) s t (running a) m)) ∙ o)
       (steps w r (sound_parts r h.shape a.sound) h.inv s (running a) t m i) q
 
   -- no event conflicts
-  pub at_peace : (e : Event) → (event_of r e).outcome ≡ Refused 6 → ⊥
+  pub at_peace : (e : Event) → (event_of r e).outcome ≡ Refused Conflict → ⊥
   at_peace e q = ⊎_elim taken refused (fate r e)
     where
       taken : Accepted r e → ⊥
       taken a = let z : ◌≡◌ {A = ℕ} 1 0 = sym (then_accepted a) ∙ ap accepted_by q in omega arith
 
-      grounded : {e : Event} {g : ℕ} → Denied r e g → g ≡ 6 → ⊥
-      grounded (unsound e) q = omega arith
+      grounded : {e : Event} {g : Refusal} → Denied r e g → g ≡ Conflict → ⊥
+      grounded (unsound e) q = cc
       grounded (step a y) q = peaceful y q
-      grounded (not_one e) q = omega arith
-      grounded (again e) q = omega arith
+      grounded (not_one e) q = cc
+      grounded (again e) q = cc
 
       refused : Refuses r e → ⊥
-      refused n = grounded n.why (ap number_of (sym (ap (λ (a : Ran). a.outcome) n.unchanged) ∙ q))
+      refused n = grounded n.why (let e = sym (ap (λ (a : Ran). a.outcome) n.unchanged) ∙ q in cc)

@@ -1,18 +1,18 @@
 -- What every run of either protocol keeps, and that steps, cuts and losses keep it.
 -- Assumes nothing.
-use Prim.Native.Nat.{ℕ, ◌≤◌}
-use mathlib.Core.Path.{◌≡◌, refl, sym, subst, ◌∙◌}
-use mathlib.Core.Logic.{◌≢◌, ◌⊎◌, inl, inr, ⊎_elim}
+use Prim.Native.Nat.{ℕ}
+use mathlib.Core.Path.{refl, sym, subst, ◌∙◌}
+use mathlib.Core.Logic.{inl, inr, ⊎_elim}
 use Rattle.site.specs.declared.State.{State}
-use Rattle.promise.proofs.Classes.{Central, Peers, Kind, MoveW, Prepare, IsA, PC, IsYes, Gives}
+use Rattle.promise.proofs.Classes.{Kind, MoveW, Prepare, IsA, PC, IsYes, Gives}
 use Rattle.promise.proofs.View.{View, Evidence, seen, told, Open, Inv}
-use Rattle.promise.proofs.First.{Coordinated, Left, nowhere, written, standing, Dead, Yielded, aborted, moved, waits, Peered, Own}
+use Rattle.promise.proofs.First.{Left, nowhere, written, standing, Dead, Yielded, aborted, moved, waits, Own}
 use Rattle.promise.proofs.Less.{Less, less, stop, Votes}
 use Rattle.promise.proofs.Become.{upd_same, upd_other, become}
 use Rattle.promise.proofs.Send.{send}
 use Rattle.promise.proofs.Does.{Uses, Does}
 use Rattle.promise.proofs.Safety.{whole, cut}
-use Rattle.promise.proofs.Own.{Stepped, own}
+use Rattle.promise.proofs.Own.{own}
 
 -- What every run of either protocol keeps.
 pub record Kept (a : View) : Type 0 where

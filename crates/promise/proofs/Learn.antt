@@ -1,11 +1,11 @@
 -- A site that has stopped takes over the state of another: an enquiry of a returned site. What every run keeps is kept, in both protocols, with no clause of its own.
 -- Assumes nothing.
 use Prim.Native.Nat.{ℕ}
-use mathlib.Core.Path.{◌≡◌, refl, sym, subst, ◌∙◌}
-use mathlib.Core.Logic.{◌≢◌, ◌⊎◌, inl, inr, ⊎_elim}
+use mathlib.Core.Path.{◌≡◌, subst}
+use mathlib.Core.Logic.{inl, inr, ⊎_elim}
 use Rattle.site.specs.declared.State.{State}
-use Rattle.promise.proofs.Classes.{Kind, IsA, QW, PC}
-use Rattle.promise.proofs.View.{View, Evidence, seen, told, Open, Muted, Mute, Decided, MayAbort, nobody, Inv}
+use Rattle.promise.proofs.Classes.{Kind}
+use Rattle.promise.proofs.View.{View, Evidence, seen, told, Open, Muted, Decided, nobody, Inv}
 use Rattle.promise.proofs.First.{Left, nowhere, written, standing, Dead, Yielded, aborted, moved, waits, Own}
 use Rattle.promise.proofs.Become.{by_site, upd, upd_same, upd_other}
 use Rattle.promise.proofs.Kept.{Kept}

@@ -5,7 +5,7 @@ use mathlib.Core.Path.{◌≡◌, refl, subst, fun_ext}
 use mathlib.Core.Logic.{◌≢◌, ◌⊎◌, inl, inr, ⊎_elim}
 use Rattle.site.specs.declared.State.{State}
 use Rattle.promise.proofs.Classes.{Protocol, Kind, Yes, No, Ack, IsQ}
-use Rattle.promise.proofs.View.{View, Evidence, seen, told, Open, Muted, Mute, MayPrepare, Decided, MayAbort, MayCommit, nobody, Inv}
+use Rattle.promise.proofs.View.{View, Evidence, seen, told, Open, Muted, Mute, Decided, MayAbort, MayCommit, nobody, Inv}
 
 -- b is a with fewer running sites and live messages, the same states and leaders, and the same votes but for those of sites that stop in q.
 pub record Less (b a : View) : Type 0 where

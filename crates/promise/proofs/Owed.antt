@@ -7,7 +7,7 @@ use native.Mathlib.Decide.{ℕ_discrete}
 use native.Mathlib.Omega.{arith}
 use Rattle.site.specs.declared.State.{State}
 use Rattle.site.specs.declared.State.TheVariants.{Q, W, P, A, C}
-use Rattle.promise.proofs.Classes.{Protocol, Kind, Start, Yes, No, MoveP, MoveW, Ack, Commit, Abort, Prepare, by_kind, IsQ, IsA, IsC, WP, Order, at_order, First, Leads, a_final, c_final, is_a, is_c_lem, wpac_not_q, same_order, late_above}
+use Rattle.promise.proofs.Classes.{Protocol, Kind, Start, Yes, No, MoveP, MoveW, Ack, Commit, Abort, Prepare, by_kind, IsQ, IsA, IsC, WP, Order, at_order, Leads, a_final, c_final, is_a, is_c_lem, wpac_not_q, same_order}
 use Rattle.promise.proofs.View.{View, Lead, Lowest, Inv}
 use Rattle.promise.proofs.Become.{by_site}
 use Rattle.promise.proofs.Does.{Everyone, Idle, Uses, nothing, notes, message, Does, central, peers, shared, begin_yes, begin_no, start_yes, start_no, give_up, prepare, peer_yes, peer_no, peer_ends, peer_prepares, peer_commits, move_p, stay_p, move_w, stay_w, commit, abort, over_q, over, end_a, end_c, noted, passed}

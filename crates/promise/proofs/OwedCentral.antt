@@ -6,11 +6,10 @@ use mathlib.Core.Logic.{◌≢◌, ◌⊎◌, inl, inr, ⊎_elim}
 use native.Mathlib.Decide.{ℕ_discrete, dec_lt}
 use native.Mathlib.Omega.{arith}
 use Rattle.site.specs.declared.State.{State}
-use Rattle.site.specs.declared.State.TheVariants.{Q, W, P, A, C}
-use Rattle.promise.proofs.Classes.{Protocol, Central, Peers, by_protocol, not_both, Kind, Start, Yes, No, MoveP, MoveW, Ack, Commit, Abort, IsQ, IsW, QW, IsAck, Order, Early, First, Leads, q_in_qw, w_in_qw, is_w_lem, pc_not_qw, late_above}
-use Rattle.promise.proofs.View.{View, Lowest, Inv}
-use Rattle.promise.proofs.Become.{by_site}
-use Rattle.promise.proofs.Does.{Everyone, Uses, message, Does, central, peers, shared, begin_yes, begin_no, start_yes, start_no, give_up, prepare, peer_yes, peer_no, peer_ends, peer_prepares, peer_commits, move_p, stay_p, move_w, stay_w, commit, abort, over_q, over, end_a, end_c, noted, passed}
+use Rattle.site.specs.declared.State.TheVariants.{W}
+use Rattle.promise.proofs.Classes.{Protocol, Central, Peers, by_protocol, not_both, Kind, Start, Yes, No, MoveP, MoveW, Ack, Commit, Abort, IsQ, IsW, QW, IsAck, Order, Early, Leads, q_in_qw, w_in_qw, is_w_lem}
+use Rattle.promise.proofs.View.{View, Inv}
+use Rattle.promise.proofs.Does.{Everyone, Uses, message, Does, central, peers, shared, begin_yes, begin_no, start_yes, start_no, give_up, prepare, move_p, stay_p, move_w, stay_w, commit, abort, over_q, over, end_a, end_c, noted, passed}
 use Rattle.promise.proofs.Safety.{alone}
 use Rattle.promise.proofs.Owed.{Owed, After, Stopped, Led, stays, used, came}
 

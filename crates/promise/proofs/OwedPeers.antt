@@ -1,16 +1,16 @@
 -- What peers owe one another in the first phase, while no site has stopped, and that every step keeps it.
 -- Assumes nothing.
-use Prim.Native.Nat.{ℕ, ◌≤◌, ◌<◌}
+use Prim.Native.Nat.{ℕ}
 use mathlib.Core.Path.{◌≡◌, refl, sym, subst, ◌∙◌}
 use mathlib.Core.Logic.{◌≢◌, ◌⊎◌, inl, inr, ⊎_elim}
 use native.Mathlib.Decide.{ℕ_discrete}
 use native.Mathlib.Omega.{arith}
 use Rattle.site.specs.declared.State.{State}
-use Rattle.site.specs.declared.State.TheVariants.{Q, W, P, A, C}
-use Rattle.promise.proofs.Classes.{Protocol, Central, Peers, by_protocol, not_both, Kind, Start, Yes, No, MoveP, MoveW, Ack, Commit, Abort, Prepare, by_kind, WPAC, PC, QWP, Order}
+use Rattle.site.specs.declared.State.TheVariants.{W}
+use Rattle.promise.proofs.Classes.{Central, Peers, by_protocol, not_both, Kind, Start, Yes, No, MoveP, MoveW, Ack, Commit, Abort, Prepare, by_kind, WPAC, PC, QWP}
 use Rattle.promise.proofs.View.{View, Lead, Inv}
 use Rattle.promise.proofs.Become.{by_site}
-use Rattle.promise.proofs.Does.{Others, Backup, Idle, Uses, nothing, notes, message, Does, central, peers, shared, begin_yes, begin_no, start_yes, start_no, give_up, prepare, peer_yes, peer_no, peer_ends, peer_prepares, peer_commits, move_p, stay_p, move_w, stay_w, commit, abort, over_q, over, end_a, end_c, noted, passed}
+use Rattle.promise.proofs.Does.{Others, Backup, Idle, Uses, nothing, notes, message, Does, central, peers, shared, peer_yes, peer_no, peer_ends, peer_prepares, peer_commits, move_p, stay_p, move_w, stay_w, commit, abort, over_q, over, end_a, end_c, noted, passed}
 use Rattle.promise.proofs.Owed.{After, Stopped, stays, came}
 
 -- No site has stopped.

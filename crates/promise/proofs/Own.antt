@@ -1,14 +1,14 @@
 -- Every step of a site keeps what the first phases keep of their own, whole or cut short by a stop.
 -- Assumes nothing.
-use Prim.Native.Nat.{ℕ, ◌≤◌, ◌<◌}
-use mathlib.Core.Path.{◌≡◌, refl, sym, subst, subst₂, ◌∙◌}
+use Prim.Native.Nat.{ℕ, ◌≤◌}
+use mathlib.Core.Path.{◌≡◌, refl, sym, subst, ◌∙◌}
 use mathlib.Core.Logic.{◌≢◌, ◌⊎◌, inl, inr, ⊎_elim}
 use native.Mathlib.Decide.{ℕ_discrete}
 use native.Mathlib.Omega.{arith}
 use Rattle.site.specs.declared.State.{State}
-use Rattle.site.specs.declared.State.TheVariants.{Q, W, P, A, C}
-use Rattle.promise.proofs.Classes.{Protocol, Central, Peers, not_both, Kind, Start, Yes, No, MoveP, MoveW, Ack, Commit, Abort, Prepare, IsA, QW, WA, PC, IsPrepare, Order, Prepares, Yields, IsAbort, at_order, Early, First, early_before, late_above, order_prepare, prepares_order, pc_not_qw, pc_not_a, qwa_is, wa_in_qwa, a_final}
-use Rattle.promise.proofs.View.{View, Evidence, seen, told, EP, EA, Open, Inv}
+use Rattle.site.specs.declared.State.TheVariants.{W}
+use Rattle.promise.proofs.Classes.{Protocol, Central, Peers, not_both, Kind, MoveP, MoveW, Commit, Abort, Prepare, IsA, QW, PC, IsPrepare, Prepares, Yields, IsAbort, at_order, Early, First, early_before, late_above, order_prepare, prepares_order, pc_not_qw, pc_not_a, qwa_is, wa_in_qwa, a_final}
+use Rattle.promise.proofs.View.{View, Evidence, seen, told, EP, Open, Inv}
 use Rattle.promise.proofs.First.{Coordinated, Left, nowhere, written, standing, Dead, Yielded, aborted, moved, waits, Peered, Own}
 use Rattle.promise.proofs.Become.{by_site}
 use Rattle.promise.proofs.Does.{Uses, Does, central, peers, shared, begin_yes, begin_no, start_yes, start_no, give_up, prepare, peer_yes, peer_no, peer_ends, peer_prepares, peer_commits, move_p, stay_p, move_w, stay_w, commit, abort, over_q, over, end_a, end_c, noted, passed}

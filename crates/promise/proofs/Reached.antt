@@ -5,6 +5,7 @@ use mathlib.Core.Bool.{true, false}
 use mathlib.Core.List.{List, ◌++◌}
 use mathlib.Core.Path.{◌≡◌, sym, ap, subst, ◌∙◌}
 use mathlib.Core.Logic.{◌≢◌, ◌⊎◌, inl, inr, ⊎_elim}
+use Rattle.refusal.specs.declared.Refusal.TheVariants.{Conflict}
 use Rattle.site.specs.declared.State.{State}
 use Rattle.site.specs.declared.State.TheVariants.{A, C}
 use Rattle.site.specs.declared.Outcome.TheVariants.{Refused}
@@ -63,7 +64,7 @@ module _ (n : ℕ) (least : 2 ≤ n) (most : n ≤ 8) (es : List Event) where
       ⊎_elim (λ x. absurd x) (λ x. x)
       (held.inv.prepared (seen i (rw (in_state_lem i C p c) tt)) j q.0 (rw (sites_after n least most es) q.1))
 
-  pub peace : (e : Event) → (event_of r e).outcome ≢ Refused 6
+  pub peace : (e : Event) → (event_of r e).outcome ≢ Refused Conflict
   peace e = at_peace votes r held e
 
   pub decide : ((e : Event) → Accepts r e → IsStop e) → (i : ℕ) → IsSite n i → has_stopped r i ≡ false → (state_of r i ≡ C) ⊎ (state_of r i ≡ A)

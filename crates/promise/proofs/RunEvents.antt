@@ -11,7 +11,7 @@ use Rattle.site.specs.declared.Step.{Step}
 use Rattle.site.specs.Site.{names_of}
 use Rattle.site.specs.Step.{step_of}
 use Rattle.run.specs.declared.Run.{Run}
-use Rattle.run.specs.declared.Event.TheVariants.{Act, Stop, Cut}
+use Rattle.run.specs.declared.Event.TheVariants.{Act, Stop}
 use Rattle.run.specs.declared.Ran.{Ran}
 use Rattle.run.specs.Run.{site_at, has_stopped, stopped_at}
 use Rattle.run.specs.Sound.{sound_run}

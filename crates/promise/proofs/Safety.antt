@@ -7,9 +7,9 @@ use native.Mathlib.Decide.{ℕ_discrete, dec_lt}
 use native.Mathlib.Omega.{arith}
 use Rattle.site.specs.declared.State.{State}
 use Rattle.site.specs.declared.State.TheVariants.{Q, W, P, A}
-use Rattle.promise.proofs.Classes.{Protocol, Central, Peers, not_both, Kind, Start, Yes, No, MoveP, MoveW, Ack, Commit, Abort, Prepare, IsQ, IsNo, QW, QWA, qwa_is, rest_in_pc, WA, PC, Order, at_order, Stands, Relies, Early, First, late_above, IsYes, IsAck, Gives, relies_if, order_gives, order_acks, order_nos, no_withholds, yes_gives, wa_in_qwa, Final, final_is}
-use Rattle.promise.proofs.View.{View, seen, told, EP, EA, Lead, Lowest, Muted, MayPrepare, Decided, MayAbort, MayCommit, Safe, nobody, Inv}
-use Rattle.promise.proofs.First.{Coordinated, Left, nowhere, written, standing as stands_there, Dead, Yielded, aborted, moved, waits, Peered, Own}
+use Rattle.promise.proofs.Classes.{Protocol, Central, Peers, Kind, Start, Yes, No, MoveP, MoveW, Ack, Commit, Abort, Prepare, IsQ, IsNo, QW, QWA, qwa_is, rest_in_pc, WA, PC, Order, at_order, Stands, Relies, Early, First, late_above, IsYes, IsAck, Gives, relies_if, order_gives, order_acks, order_nos, no_withholds, yes_gives, wa_in_qwa, Final, final_is}
+use Rattle.promise.proofs.View.{View, seen, told, EA, Lead, Lowest, Decided, MayAbort, MayCommit, Safe, nobody, Inv}
+use Rattle.promise.proofs.First.{Coordinated, Left, nowhere, written, standing as stands_there, Dead, aborted, moved, waits, Peered, Own}
 use Rattle.promise.proofs.Less.{Votes, stop, stop_inv, stop_abort, stop_commit}
 use Rattle.promise.proofs.Become.{by_site, upd_same, upd_other, become, Fits, become_inv}
 use Rattle.promise.proofs.Send.{send, send_inv}

@@ -10,6 +10,7 @@ use lib.Dec.{eqb, leb, ltb}
 use borrow.Author.Tests.{eqb-true, eqb-false, leb-true, ltb-true, ltb-false, not-true, not-false}
 use Rattle.sets.specs.Sets.{has, minus, others_of, below_of, weight_of, with_site, subset}
 use Rattle.sets.proofs.SetLaws.{Site, has_site, subset_has}
+use Rattle.refusal.specs.declared.Refusal.TheVariants.{NotAllowed, Conflict as in_conflict}
 use Rattle.site.specs.declared.State.{State}
 use Rattle.site.specs.declared.State.TheVariants.{Q, W, P, A, C}
 use Rattle.site.specs.declared.Vote.{Vote}
@@ -23,7 +24,7 @@ use Rattle.site.specs.declared.Done.{Done}
 use Rattle.site.specs.Site.{is_q, is_w, is_p, in_state, following, knowing, leads, is_order, ends_of, to_all, in_run, names_of, polls, collects, awaited_of, refused, passed, taken}
 use Rattle.site.proofs.SiteFacts.{SoundSite}
 use Rattle.site.proofs.SiteSteps.{sound_parts, is_q_lem, is_w_lem, is_p_lem}
-use Rattle.site.specs.First.{begun, begin_of, voted, start_of, noted, vote_of, tally_of}
+use Rattle.site.specs.First.{begun, begin_of, voted, start_of, vote_of, tally_of}
 use Rattle.site.specs.Leader.{order_at, obeyed, obey_of, ack_of, over_in, take_over_of, settle_of}
 use Rattle.site.specs.Step.{notice_of, conclude_of, deliver_of, rule_of}
 use Rattle.run.specs.declared.Run.{Run}
@@ -61,7 +62,7 @@ not_w s e d = true≢false (sym (ap is_w d) ∙ e)
 abbrev pub Sure : Outcome → Type 0 → Type 0
 Sure Taken X = X
 Sure Passed X = X
-Sure (Refused g) X = g ≢ 6
+Sure (Refused g) X = g ≢ in_conflict
 
 -- Site j of the run r takes a step.
 module _ (w : ℕ → Type 0) (r : Run) (g : Sound r) (u : Inv (view_of w r)) (j : ℕ) (x : Runs r j) where
@@ -161,7 +162,7 @@ module _ (w : ℕ → Type 0) (r : Run) (g : Sound r) (u : Inv (view_of w r)) (j
   same_sl : {κ : Kind} {y : Uses} {T : ℕ → Type 0} → Does a j T (a.st j) (a.ld j) κ y → Does a j T s.state s.leader κ y
   same_sl {κ} {y} {T} h = subst (λ (q : State). Does a j T q s.leader κ y) st_is (same_l h)
 
-  -- what is to be shown of each step: it is refused, and not with 6, or it is seen
+  -- what is to be shown of each step: it is refused, and not for a conflict, or it is seen
   abbrev M : Step → Done → Type 0
   M t d = Sure d.outcome (Stepped t d)
 
@@ -193,9 +194,9 @@ module _ (w : ℕ → Type 0) (r : Run) (g : Sound r) (u : Inv (view_of w r)) (j
   begins : (v : Vote) → M (step.Begin v) (begin_of s v)
   unfolding begin_of
   begins v =
-      by_cond (M (step.Begin v)) (eqb s.number 1 && is_q s.state) (begun v s) (refused s 5)
+      by_cond (M (step.Begin v)) (eqb s.number 1 && is_q s.state) (begun v s) (refused s NotAllowed)
       (λ e. begun_is v (sym mine ∙ eqb-true s.number 1 (and_l (eqb s.number 1) (is_q s.state) e)) (st_is ∙ is_q_lem s.state (and_r (eqb s.number 1) (is_q s.state) e)))
-      (λ _. omega arith)
+      (λ _ q. cc)
 
   -- a step that changes neither state nor leader and writes nothing
   quietly : (t : Step) (d : Done) (y : Uses) → Does a j (λ i. In d.to i) d.site.state d.site.leader Ack y → ((i : ℕ) → In d.to i → ⊥)
@@ -213,7 +214,7 @@ module _ (w : ℕ → Type 0) (r : Run) (g : Sound r) (u : Inv (view_of w r)) (j
       }
 
   no_pass : Passed ≡ Taken → ⊥
-  no_pass e = let z : ◌≡◌ {A = ℕ} 0 1 = cc in omega arith
+  no_pass e = cc
 
   -- the delivered message is used up
   same_message : {κ c : Kind} {k i : ℕ} → κ ≡ c → k ≡ i → message κ k ≡ message c i
@@ -542,11 +543,11 @@ module _ (w : ℕ → Type 0) (r : Run) (g : Sound r) (u : Inv (view_of w r)) (j
   takes_over : M step.TakeOver (take_over_of s)
   unfolding take_over_of
   takes_over =
-      by_cond (M step.TakeOver) (ltb s.leader s.number && subset (below_of s.number) s.known) (over_in s.state s) (refused s 5)
+      by_cond (M step.TakeOver) (ltb s.leader s.number && subset (below_of s.number) s.known) (over_in s.state s) (refused s NotAllowed)
       (λ e. over_in_lem (ltb-true s.leader s.number (and_l (ltb s.leader s.number) (subset (below_of s.number) s.known) e))
       (λ i p q. subset_has (below_of s.number) s.known i (and_r (ltb s.leader s.number) (subset (below_of s.number) s.known) e) (in_below s.number i (a_site i p (omega (arith, x.most))) (rw mine q)))
       s.state refl)
-      (λ _. omega arith)
+      (λ _ q. cc)
 
   -- ---- Conclude
 
@@ -557,11 +558,11 @@ module _ (w : ℕ → Type 0) (r : Run) (g : Sound r) (u : Inv (view_of w r)) (j
   unfolding polls tally_of
   tallies e =
       by_cond (M step.Conclude) (not (eqb s.no 0) || not (subset s.known s.yes)) (taken (in_state s A) 8 (to_all s))
-      (cond (subset (others_of s.n s.number) s.yes) (taken (in_state s P) 4 (to_all s)) (refused s 5))
+      (cond (subset (others_of s.n s.number) s.yes) (taken (in_state s P) 4 (to_all s)) (refused s NotAllowed))
       (λ _. concluding Abort A (λ h. h) (does.central refl (does.give_up one wait (leads_itself one) (everyone (none_below one)))))
-      (λ _. by_cond (M step.Conclude) (subset (others_of s.n s.number) s.yes) (taken (in_state s P) 4 (to_all s)) (refused s 5)
+      (λ _. by_cond (M step.Conclude) (subset (others_of s.n s.number) s.yes) (taken (in_state s P) 4 (to_all s)) (refused s NotAllowed)
       (λ h. concluding MoveP P (λ h. h) (does.central refl (does.prepare one wait (leads_itself one) (said h) (everyone (none_below one)))))
-      (λ _. omega arith))
+      (λ _ q. cc))
     where
       one : j ≡ 1
       one = sym mine ∙ eqb-true s.number 1 (and_r (is_w s.state) (eqb s.number 1) e)
@@ -612,11 +613,11 @@ module _ (w : ℕ → Type 0) (r : Run) (g : Sound r) (u : Inv (view_of w r)) (j
   settles : polls s ≡ false → M step.Conclude (settle_of s)
   unfolding settle_of
   settles f =
-      by_cond (M step.Conclude) (collects s && eqb (awaited_of s) 0) (cond (is_p s.state) (taken (in_state s C) 7 (to_all s)) (taken (in_state s A) 8 (to_all s))) (refused s 5)
+      by_cond (M step.Conclude) (collects s && eqb (awaited_of s) 0) (cond (is_p s.state) (taken (in_state s C) 7 (to_all s)) (taken (in_state s A) 8 (to_all s))) (refused s NotAllowed)
       (λ e. by_cond (M step.Conclude) (is_p s.state) (taken (in_state s C) 7 (to_all s)) (taken (in_state s A) 8 (to_all s))
       (λ p. concluding Commit C (λ h. h) (does.shared (does.end_c (leading (gather e)) (st_is ∙ is_p_lem s.state p) (all_told (gather e) (none e)) (everyone (lower (gather e) (none e))))))
       (λ p. concluding Abort A (λ h. h) (does.shared (does.end_a (leading (gather e)) (st_is ∙ waits (gather e) p) (all_told (gather e) (none e)) (everyone (lower (gather e) (none e)))))))
-      (λ _. omega arith)
+      (λ _ q. cc)
     where
       gather : (collects s && eqb (awaited_of s) 0) ≡ true → collects s ≡ true
       gather e = and_l (collects s) (eqb (awaited_of s) 0) e

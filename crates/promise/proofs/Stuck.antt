@@ -12,6 +12,7 @@ use borrow.Author.Tests.{eq-eqb, ne_eqb, eqb-true, le-leb, lt-ltb, not-false}
 use Rattle.sets.specs.Sets.{has, minus, others_of, below_of, subset}
 use Rattle.sets.proofs.SetLaws.{Site, has_site, subset_has, subset_of}
 use Rattle.sets.proofs.SubsetLaws.{minus_lt, others_lt, all_lt, nobody}
+use Rattle.refusal.specs.declared.Refusal.TheVariants.{NotAllowed, Conflict as in_conflict}
 use Rattle.site.specs.declared.State.{State}
 use Rattle.site.specs.declared.State.TheVariants.{Q, W, P, A, C}
 use Rattle.site.specs.declared.Vote.TheVariants as vote
@@ -60,7 +61,7 @@ use Rattle.promise.proofs.Owing.{owed_votes, owed_after}
 abbrev Tame : Outcome → Type 0
 Tame Taken = Unit
 Tame Passed = Unit
-Tame (Refused g) = g ≡ 6
+Tame (Refused g) = g ≡ in_conflict
 
 tame_cond : (b : Bool) (x y : Done) → Tame x.outcome → Tame y.outcome → Tame (cond b x y).outcome
 tame_cond true x y p q = p
@@ -223,7 +224,7 @@ module _ (w : ℕ → Type 0) (r : Run) (h : Upheld w r) (o : Owes (view_of w r)
               (either (has z.known i))
 
           go : (b : Bool) → (not (eqb z.no 0) || not (subset z.known z.yes)) ≡ b
-              → IsAccepted (cond b (taken (in_state z A) 8 (to_all z)) (cond (subset (others_of z.n z.number) z.yes) (taken (in_state z P) 4 (to_all z)) (refused z 5))).outcome
+              → IsAccepted (cond b (taken (in_state z A) 8 (to_all z)) (cond (subset (others_of z.n z.number) z.yes) (taken (in_state z P) 4 (to_all z)) (refused z NotAllowed))).outcome
           go true f = tt
           go false f =
               let n : z.no ≡ 0 = eqb-true z.no 0 (not-false (eqb z.no 0) (or_none (not (eqb z.no 0)) (not (subset z.known z.yes)) f).0) in

@@ -2,7 +2,8 @@
 -- `after n es` and `reached n es` are by the definition that the contract of `run` cites; refused events change nothing and do not count.
 -- That all of it holds is the theorem `promised` (proofs/Promised.antt).
 -- Assumes nothing.
-use Rattle.std.specs.Prelude.{ℕ, ◌+◌, ◌-◌, ◌*◌, ◌/◌, ◌^◌, ◌≤◌, true, false, List, ◌++◌, ◌≡◌, ◌≢◌, ◌⊎◌}
+use Rattle.std.specs.Prelude.{ℕ, ◌+◌, ◌-◌, ◌*◌, ◌/◌, ◌^◌, ◌≤◌, true, false, List, ◌++◌, ◌≡◌, ◌≢◌, ◌⊎◌, Some}
+use Rattle.refusal.specs.declared.Refusal.TheVariants.{Conflict}
 use Rattle.site.specs.declared.State.TheVariants.{A, C}
 use Rattle.site.specs.declared.Outcome.TheVariants.{Refused}
 use Rattle.run.specs.declared.Run.{Run}
@@ -28,7 +29,7 @@ pub record Promise (n : ℕ) : Type 0 where
   -- At most so many events are accepted.
   pub event_bound : (es : List Event) → (after n es).accepted ≤ 5 * (n - 1) + 3 * (n - 1) * (n - 2) / 2 + (n + 1) ^ 2
   -- No event conflicts: ground 6 is never given.
-  pub never_conflict : (es : List Event) (e : Event) → (event_of (reached n es) e).outcome ≢ Refused 6
+  pub never_conflict : (es : List Event) (e : Event) → (event_of (reached n es) e).outcome ≢ Refused Conflict
   -- These promises are not about runs that never commit: after some events, which write 5(n-1) messages, every site is in commit.
   pub posts : (es : List Event) × ((i : ℕ) → IsSite n i → state_of (reached n es) i ≡ C) × ((after n es).written ≡ 5 * (n - 1))
   -- The exact bound, below the one above: no list of events has more accepted, and one has as many.
@@ -49,7 +50,7 @@ pub record DayPromise (n : ℕ) : Type 0 where
       → (i : ℕ) → IsSite n i → has_stopped r i ≡ false → (state_of r i ≡ C) ⊎ (state_of r i ≡ A)
   pub event_bound : {r : Run} {k : ℕ} → ByCalls n r k → k ≤ 5 * (n - 1) + 3 * (n - 1) * (n - 2) / 2 + (n + 1) ^ 2
   -- No journal ends with ground 6.
-  pub never_conflict : {r : Run} {k : ℕ} → ByCalls n r k → (l : List ℕ) → (day_of r l).day.refusal ≢ 6
+  pub never_conflict : {r : Run} {k : ℕ} → ByCalls n r k → (l : List ℕ) → (day_of r l).day.refusal ≢ Some Conflict
   -- After some journal that is handed over from fresh, every site is in commit, with 5(n-1) messages written.
   pub posts : (l : List ℕ) × ((i : ℕ) → IsSite n i → state_of (day_of (fresh_of n).run l).run i ≡ C) × ((day_of (fresh_of n).run l).day.written ≡ 5 * (n - 1))
   pub exact_bound : ((r : Run) (k : ℕ) → ByCalls n r k → k ≤ 2 * n ^ 2 + 3 * n - 1) × ((l : List ℕ) × ((day_of (fresh_of n).run l).day.accepted ≡ 2 * n ^ 2 + 3 * n - 1))

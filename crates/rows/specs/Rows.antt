@@ -1,8 +1,10 @@
 -- 01's starred rows ("Tables to run and compare") as one list, in its order. RowsHold shows that all of them hold.
 -- What a row leaves open, as how many sites there are or whom they have heard, may be anything that a sound record can have; row 3 is about a site that knows of no stop.
 -- Assumes nothing.
-use Rattle.std.specs.Prelude.{ℕ, ◌≤◌, ◌<◌, true, List, [], ◌∷◌, ◌≡◌}
+use Rattle.std.specs.Prelude.{ℕ, ◌≤◌, ◌<◌, true, List, [], ◌∷◌, ◌≡◌, Result, Err}
 use Rattle.sets.specs.Sets.{weight_of, others_of}
+use Rattle.refusal.specs.declared.Refusal.{Refusal}
+use Rattle.refusal.specs.declared.Refusal.TheVariants.{NotSound, NotAllowed, Conflict, WrongVersion}
 use Rattle.site.specs.declared.State.{State}
 use Rattle.site.specs.declared.State.TheVariants.{Q, W, P, A, C}
 use Rattle.site.specs.declared.Vote.{Vote}
@@ -17,8 +19,7 @@ use Rattle.site.specs.Step.{step_of, none, refusal}
 use Rattle.run.specs.declared.Ran.{Ran}
 use Rattle.run.specs.Run.{fresh_site, fresh_run}
 use Rattle.run.specs.Event.{refused_run, fresh_of}
-use Rattle.journal.specs.declared.Found.{Found}
-use Rattle.journal.specs.declared.Found.TheVariants.{Bad}
+use Rattle.journal.specs.declared.Record.{Record}
 use Rattle.journal.specs.Record.{body_of, read_of}
 
 -- ---- what a row can say
@@ -31,7 +32,7 @@ pub data Row : Type 1 where
   -- and at the record that it gives, a second step gives this one
   steps : (Site → Type 0) → Step → (Site → Answer) → Step → (Site → Answer) → Row
   -- in these bytes the reader finds this
-  read : List ℕ → Found → Row
+  read : List ℕ → Result Record Refusal → Row
   -- one of these for every value of something that 01 leaves open
   any : {T : Type 0} → (T → Row) → Row
 
@@ -83,17 +84,17 @@ second_of n q s = (s.number ≡ 2) × (s.n ≡ n) × (s.state ≡ q) × (s.leade
 abbrev pub starred : List Row
 starred =
     -- *1 fresh n = 1: 1
-    fresh 1 (refused_run (fresh_run 0) 1)
+    fresh 1 (refused_run (fresh_run 0) NotSound)
     -- *2 fresh n = 9: 1
-    ∷ fresh 9 (refused_run (fresh_run 0) 1)
+    ∷ fresh 9 (refused_run (fresh_run 0) NotSound)
     -- *3 begin yes, n = 8, site 1: 7 messages, 7 awaited; the lowest of them is 2 (02, Ask 4)
     ∷ step (λ s. s ≡ fresh_site 8 1) (Begin Yes) (λ s. answer_taken (in_state s W) start (others_of 8 1) 7 7 2)
     -- *4 begin at site 2: 5
-    ∷ any (λ (v : Vote). step (λ s. s.number ≡ 2) (Begin v) (λ s. refusal s 5))
+    ∷ any (λ (v : Vote). step (λ s. s.number ≡ 2) (Begin v) (λ s. refusal s NotAllowed))
     -- *5 Start yes at q: w, one Yes
     ∷ step (λ s. (1 < s.number) × (s.leader ≡ 1) × (s.state ≡ Q)) (Start 1 Yes) (λ s. answer_taken (in_state s W) say_yes (weight_of 1) 1 0 0)
     -- *6 Move-p at q: 6
-    ∷ any (λ (j : ℕ). step (λ s. (j < s.number) × (s.leader ≤ j) × (s.state ≡ Q)) (Deliver move_p j) (λ s. refusal s 6))
+    ∷ any (λ (j : ℕ). step (λ s. (j < s.number) × (s.leader ≤ j) × (s.state ≡ Q)) (Deliver move_p j) (λ s. refusal s Conflict))
     -- *7 site 3 follows 2, Move-p from 1: passed over
     ∷ step (λ s. (s.number ≡ 3) × (s.leader ≡ 2)) (Deliver move_p 1) answer_passed
     -- *8 Move-w from 2 at p, site 3: w, Ack, follows 2
@@ -103,5 +104,5 @@ starred =
     -- *10 take over in p, site 2 of 2, 1 stopped: p, 0 messages; conclude then gives c
     ∷ steps (second_of 2 P) TakeOver (λ s. quietly (leading (in_state s P))) Conclude (λ s. quietly (in_state s C))
     -- *11 record 00 07 02.. (9 bytes): 12
-    ∷ any (λ f. read (0 ∷ 7 ∷ 2 ∷ body_of f) (Bad 12))
+    ∷ any (λ f. read (0 ∷ 7 ∷ 2 ∷ body_of f) (Err WrongVersion))
     ∷ []
