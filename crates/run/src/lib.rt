@@ -196,12 +196,13 @@ fn none_awaited(written: u8) -> Counts
 }
 
 impl Run {
-    // The run as it was, with a ground and zero counts.
-    fn refused(self, why: Refusal) -> Ran
-        ensures { result ≡ refused_run self why }
+    // The run as it was, with a ground and zero counts. It is copied field by field: a copy of the whole may be compiled to a call of memmove, and C's
+    // archive is to need none but memcpy and memset.
+    fn refused(&self, why: Refusal) -> Ran
+        ensures { result ≡ refused_run self.now why }
     {
         Ran {
-            run: self,
+            run: Run { ..*self },
             outcome: Outcome::Refused(why),
             counts: none_awaited(0),
         }
@@ -251,9 +252,9 @@ impl Run {
 
     // An event of a run of at most eight sites, tested for soundness or known to be sound.
     #[tactic(auto, unfolding(crate::specs::Event::goes_of, crate::specs::Event::stop_ground, crate::specs::Event::step_ground, crate::specs::Event::is_actor))]
-    fn goes(self, event: Event) -> Ran
-        requires { self.n ≤ 8 }
-        ensures { result ≡ goes_of self event }
+    fn goes(&self, event: Event) -> Ran
+        requires { self.now.n ≤ 8 }
+        ensures { result ≡ goes_of self.now event }
     {
         let s = match event {
             Event::Act(s, _) | Event::Stop(s) | Event::Cut(s, _, _) => s,
@@ -261,7 +262,7 @@ impl Run {
         if !(1..=self.n).contains(&s) {
             return self.refused(Refusal::WrongNames);
         }
-        let actor = Actor { run: &self, s };
+        let actor = Actor { run: self, s };
         match event {
             Event::Act(_, step) => actor.acts(step),
             Event::Stop(_) => actor.stops(),
@@ -285,12 +286,16 @@ impl Run {
         self
     }
 
-    // The run is tested once, for all events to come.
+    // The run is tested once, for all events to come. It is tested where it stands in the answer: a copy made after the test may be a memmove too.
     pub fn tested(self) -> Tested
         ensures { result ≡ tested_of self }
     {
-        let good = self.good();
-        Tested { run: self, good }
+        let mut tested = Tested {
+            run: self,
+            good: false,
+        };
+        tested.good = tested.run.good();
+        tested
     }
 
     // An event happens in any run.
