@@ -8,16 +8,14 @@ use native.Mathlib.Decide.{dec_lt}
 use native.Mathlib.Omega.{arith}
 use borrow.Author.Tests.{eqb-true, lt-ltb, le-ltb, ltb-false, le-leb, lt-leb, not-false}
 use lib.Dec.{eqb, ltb}
-use lib.ListN.{length, get_or, take, drop, length-append, length-drop, length-map, get_or-eq_default}
+use lib.ListN.{length, get_or, take, drop, length-append, length-drop, get_or-eq_default}
 use lib.Seq.{length-take-le}
 use Rattle.std.specs.Int.{w16, w32, to_be_bytes}
-use Rattle.std.specs.List.{flat_map as joined}
-use Rattle.std.proofs.lemmas.List.{take-map}
 use Rattle.text.specs.declared.Page.{Page}
 use Rattle.text.specs.Text.{Put, end_of, spliced}
 use Rattle.text.specs.Page.{Offered}
 use Rattle.text.proofs.TextLaws.{put_as}
-use Rattle.text.proofs.Putting.{Going, begin, next, next_by, ended, rows_joined, flat_length}
+use Rattle.text.proofs.Putting.{Going, begin, next, next_by, ended, flat_length}
 use Rattle.std.specs.Prelude.{Ok, Err}
 use Rattle.refusal.specs.declared.Refusal.{Refusal}
 use Rattle.refusal.specs.declared.Refusal.TheVariants.{SheetCounts, SheetLength, SheetRange, SheetNoRoom}
@@ -154,13 +152,6 @@ transition_length t = refl
 
 pub transitions_length : (l : List Transition) → length (flat_map transition_bytes l) ≡ 12 * length l
 transitions_length = flat_length transition_bytes 12 transition_length
-
--- the rows of the first m transitions, laid out in one list
-pub rows_are : (l : List Transition) (m : ℕ) → joined (λ (x : List ℕ). x) (take m (map transition_bytes l)) ≡ flat_map transition_bytes (take m l)
-rows_are l m = ap (joined (λ (x : List ℕ). x)) (take-map transition_bytes m l) ∙ rows_joined transition_bytes (take m l)
-
-pub rows_length : (l : List Transition) {rows : List (List ℕ)} → rows ≡ map transition_bytes l → length l ≡ 64 → length rows ≡ 64
-rows_length l is e = ap length is ∙ length-map l transition_bytes ∙ e
 
 -- the next piece is offered to the page that it fits on
 pub offered : {text x : List ℕ} {at : ℕ} {piece part : List ℕ} {ps : List (List ℕ)} {p q : Page} → Going text at x (piece ∷ ps) p.text.now p.at → part ≡ piece → Offered p part q

@@ -30,6 +30,5 @@ pub(crate) fn put_all(room: &mut [u8; PARTS], sheet: &Sheet)
     page.put(&sheet.counts);
     page.put(&sheet.marks);
     writer::put_middle(&mut page, sheet.first, (sheet.moves % 256) as u8);
-    let rows = writer::rows_of(sheet.transitions);
-    page.put(rows.as_flattened());
+    writer::put_transitions(&mut page, &sheet.transitions);
 }

@@ -1,7 +1,7 @@
 // The parts of a record, read where 01's paragraph "Record" puts them. Until the frame is tested a byte past the end counts as 0.
-ghost use Rattle.std.specs.Prelude.{◌≡◌, cond, ℕ, ◌+◌, ◌*◌, ◌/◌, ◌≤◌, [], length, get_or, ltb};
+ghost use Rattle.std.specs.Prelude.{◌≡◌, ℕ, ◌+◌, ◌*◌, ◌/◌, ◌≤◌, length, get_or};
 ghost use Rattle.sheet.specs.Index.{table};
-ghost use Rattle.sheet.specs.Record.{byte, four_at, sites_of, state_count, state_counts, states_before, moves_at, mark_read, transition_from, transition_in, no_transition, parts_of};
+ghost use Rattle.sheet.specs.Record.{byte, four_at, sites_of, state_count, state_counts, states_before, moves_at, mark_read, transition_from, transition_in, parts_of};
 ghost use Rattle.refusal.specs.Refusals.{clear};
 ghost use Rattle.sheet.specs.Grounds.{frame_ground};
 
@@ -94,19 +94,17 @@ fn transition_from(row: &[u8; 12]) -> Transition
     }
 }
 
-// The transition of row k, none where there is no such row.
-fn transition_at(rows: &[[u8; 12]], k: usize) -> Transition
-    ensures { result ≡ cond (ltb k (length rows.now)) (transition_from (get_or rows.now k []) 0) no_transition }
-{
-    rows.get(k).map_or(Transition::default(), transition_from)
-}
-
-// The transitions whose rows of twelve bytes stand here, and none at the places beyond them.
+// The transitions whose rows of twelve bytes stand here, and none at the places beyond them. Most sheets have few, so it goes over the rows, and not
+// over the 64 places.
 pub(crate) fn transitions_of(bytes: &[u8]) -> [Transition; 64]
     ensures { result ≡ table (transition_in bytes.now 0 (length bytes.now / 12)) 64 }
 {
     let (rows, _) = bytes.as_chunks();
-    array::from_fn(|k| transition_at(rows, k))
+    let mut transitions = [Transition::default(); 64];
+    for k in 0..rows.len().min(64) {
+        transitions[k] = transition_from(&rows[k]);
+    }
+    transitions
 }
 
 // The parts of a record against which no ground from 21 to 24 stands.

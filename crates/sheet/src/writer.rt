@@ -1,6 +1,6 @@
 // Writing a sheet (02, Ask 3): the grounds against its parts, and its record in a lent room.
 ghost use Rattle.std.specs.Prelude.{◌≡◌, ℕ, ◌+◌, ◌/◌, ◌%◌, ◌≤◌, ◌<◌, ◌^◌, length, get_or, take, drop};
-ghost use mathlib.Core.List.{◌∷◌, ◌++◌, map};
+ghost use mathlib.Core.List.{◌∷◌, ◌++◌, flat_map};
 ghost use Rattle.refusal.specs.Refusals.{clear};
 ghost use Rattle.text.specs.Page.{Written};
 ghost use Rattle.sheet.specs.Index.{some_below};
@@ -96,11 +96,14 @@ fn row_of(t: Transition) -> [u8; 12]
     [t.site, t.from, t.to, t.vote, r0, r1, r2, r3, w0, w1, w2, w3]
 }
 
-// The rows of the transitions.
-pub(crate) fn rows_of(transitions: [Transition; 64]) -> [[u8; 12]; 64]
-    ensures { result ≡ map transition_bytes transitions }
+// Puts transitions, twelve bytes each, one after another.
+pub(crate) fn put_transitions(page: &mut Page, moves: &[Transition])
+    requires { page.old.at + length (flat_map transition_bytes moves.now) ≤ length page.old.text.now }
+    ensures { Written page.old (flat_map transition_bytes moves.now) page.new }
 {
-    transitions.map(row_of)
+    for t in moves {
+        page.put(&row_of(*t));
+    }
 }
 
 // Puts the length of what follows it, version, number of sites and state counts.
@@ -143,6 +146,5 @@ pub(crate) fn put_record(room: &mut [u8], sheet: &Sheet, size: usize)
     put_head(&mut page, (size - 2) as u16, sheet.sites, &sheet.counts);
     put_marks(&mut page, &sheet.counts, &sheet.marks);
     put_middle(&mut page, sheet.first, sheet.moves as u8);
-    let rows = rows_of(sheet.transitions);
-    page.put(rows[..sheet.moves].as_flattened());
+    put_transitions(&mut page, &sheet.transitions[..sheet.moves]);
 }

@@ -1,15 +1,10 @@
 -- `put_record` meets its contract: piece after piece.
 -- Assumes nothing.
-use Prim.Native.Nat.{ℕ}
-use mathlib.Core.List.{List}
-use mathlib.Core.Path.{sym, ap, ◌∙◌}
+use mathlib.Core.Path.{◌∙◌}
 use native.Mathlib.Omega.{arith}
-use lib.ListN.{take}
-use lib.Seq.{length-take-le}
-use Rattle.std.specs.List.{flat_map as joined}
 use Rattle.text.proofs.Putting.{next, fits_next, length_mapped}
 use Rattle.sheet.specs.Write.{four_bytes, middle_bytes, record_of}
-use Rattle.sheet.proofs.WriteLaws.{sized, formed, moves_few, headed, recorded, rows_are, rows_length, offered}
+use Rattle.sheet.proofs.WriteLaws.{sized, formed, moves_few, headed, recorded}
 use borrow.Author.Rules.{rules}
 use Rattle.sheet.proofs.writer.put_record.Goals as goal
 
@@ -43,20 +38,17 @@ unfolding middle_bytes four_bytes
 put_middle-requires c =
     fits_next (next (headed c.args.sheet.now c.args.room.now c.args.size c.requires.1 c.requires.2 c.put_head.ensures.put) c.put_marks.ensures.put)
 
-pub slice_bounds-rows-end : goal.slice_bounds-rows-end
-slice_bounds-rows-end c =
-    let s = c.args.sheet.now in
-    omega (arith, moves_few s (formed s c.requires.0).moved, rows_length s.transitions c.rows_of-rows.ensures (search (rules, length_mapped)))
+pub shared_ref_as_front-put_transitions : goal.shared_ref_as_front-put_transitions
+shared_ref_as_front-put_transitions c = moves_few c.args.sheet.now (formed c.args.sheet.now c.requires.0).moved
 
-pub slice_bounds-as_flattened-end : goal.slice_bounds-as_flattened-end
-slice_bounds-as_flattened-end c =
-    let s = c.args.sheet.now in
-    sym (length-take-le s.moves _ (omega (arith, moves_few s (formed s c.requires.0).moved, rows_length s.transitions c.rows_of-rows.ensures (search (rules, length_mapped)))))
+pub put_transitions-requires : goal.put_transitions-requires
+put_transitions-requires c =
+    let head = headed c.args.sheet.now c.args.room.now c.args.size c.requires.1 c.requires.2 c.put_head.ensures.put in
+    fits_next (next (next head c.put_marks.ensures.put) c.put_middle.ensures.put)
 
 pub returns : goal.returns
 returns c =
     let s = c.args.sheet.now in
     let head = headed s c.args.room.now c.args.size c.requires.1 c.requires.2 c.put_head.ensures.put in
-    let rest = next (next head c.put_marks.ensures.put) c.put_middle.ensures.put in
-    let rows = c.as_flattened.ensures.value ∙ ap (λ (l : List (List ℕ)). joined (λ (x : List ℕ). x) (take s.moves l)) c.rows_of-rows.ensures ∙ rows_are s.transitions s.moves in
-    search rules ∙ recorded s c.args.room.now c.args.size c.requires.1 c.requires.2 (offered rest rows c.put.ensures)
+    let rest = next (next (next head c.put_marks.ensures.put) c.put_middle.ensures.put) c.put_transitions.ensures.put in
+    search rules ∙ recorded s c.args.room.now c.args.size c.requires.1 c.requires.2 rest
