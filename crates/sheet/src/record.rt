@@ -95,7 +95,7 @@ fn transition_from(row: &[u8; 12]) -> Transition
 }
 
 // The transitions whose rows of twelve bytes stand here, and none at the places beyond them. Most sheets have few, so it goes over the rows, and not
-// over the 64 places.
+// over the 64 places; by number, since a transition has the place of its row.
 pub(crate) fn transitions_of(bytes: &[u8]) -> [Transition; 64]
     ensures { result ≡ table (transition_in bytes.now 0 (length bytes.now / 12)) 64 }
 {
